@@ -1,0 +1,8 @@
+-- One of two by a test. Definitions only.
+use mathlib.Core.Bool.{Bool, true, false}
+
+infix 1 if_then_else_
+-- a where the test holds, else b
+abbrev pub if_then_else_ : {A : Type 0} → Bool → A → A → A
+if_then_else_ true a b = a
+if_then_else_ false a b = b

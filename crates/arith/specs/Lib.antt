@@ -1,0 +1,7 @@
+pub mod Choice
+pub mod Bv
+pub mod Arith
+pub mod TableLaws
+pub mod BvLaws
+pub mod SumLaws
+pub mod ArithLaws
