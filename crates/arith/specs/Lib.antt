@@ -1,4 +1,5 @@
 pub mod Choice
+pub mod ChoiceLaws
 pub mod Bv
 pub mod Arith
 pub mod TableLaws

@@ -1,0 +1,14 @@
+pub mod Refusals
+pub mod Outcome
+pub mod Expr
+pub mod ExprUtils
+pub mod Parse
+pub mod Span
+pub mod SameWords
+pub mod Answers
+pub mod OutcomeLaws
+pub mod KindLaws
+pub mod ExprLaws
+pub mod SameWordsLaws
+pub mod ParseLaws
+pub mod SpanLaws
