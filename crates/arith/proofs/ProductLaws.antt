@@ -1,7 +1,7 @@
 -- The product of two words by halves of 32 bits. Assumes nothing.
 use mathlib.Core.Path.{_≡_, refl, sym, ap, ap₂, _∙_}
 use Prim.Native.Nat.{ℕ, _+_, _*_, _/_, _%_, _^_, _<_}
-use native.Mathlib.Nat.{le-of-lt, lt-of-le-of-lt, mul-le-mul-left, mul-lt-mul-of-pos-right, add-mul-mod-self-right, mul-add-mod-self-right, mul-add, add-mul, mul-assoc, mul-comm, mul-left-comm, add-assoc, add-comm, add-left-comm, add-mod-mod, div-add-mod'}
+use native.Mathlib.Nat.{le-of-lt, lt-of-le-of-lt, mul-le-mul-left, mul-lt-mul-of-pos-right, add-mul-mod-self-right, mul-add-mod-self-right, mul-add, add-mul, mul-assoc, mul-comm, mul-left-comm, add-assoc, add-comm, add-mod-mod, div-add-mod'}
 use lib.Pow.{pow-pos, split, shr-lt}
 use lib.Bits.{bitAnd, and-mask, mask-lt}
 use mir.Syntax.{w64}

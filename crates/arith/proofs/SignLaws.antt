@@ -1,12 +1,12 @@
 -- What `sext` computes, one law for each of its answers. Assumes nothing.
-use mathlib.Core.Path.{_≡_, refl, sym, ap, ap₂, _∙_, subst}
+use mathlib.Core.Path.{_≡_, sym, ap, ap₂, _∙_, subst}
 use mathlib.Core.Bool.{Bool, true, false}
-use Prim.Native.Nat.{ℕ, zero, suc, _+_, _-_, _*_, _/_, _%_, _^_, _≤_, _<_, min}
-use native.Mathlib.Nat.{min-le-right, min-le-left, le-min, le-trans, mod-eq-of-lt, one-mul, mul-assoc, add-zero, add-comm, sub-add-cancel, add-mul-mod-self-right, mod-one, mod-lt, mod-add-mod, div-eq-of-lt, div-add-mod', pow-suc, zero-mul, mod-lt, div-lt-iff-lt-mul}
+use Prim.Native.Nat.{ℕ, suc, _+_, _-_, _*_, _/_, _%_, _^_, _≤_, _<_, min}
+use native.Mathlib.Nat.{min-le-right, min-le-left, le-min, le-trans, mod-eq-of-lt, mul-assoc, add-zero, add-comm, sub-add-cancel, add-mul-mod-self-right, mod-lt, mod-add-mod, div-eq-of-lt, div-add-mod', pow-suc, zero-mul, mod-lt, div-lt-iff-lt-mul}
 use native.Mathlib.Decide.{decLe}
 use native.Mathlib.Omega.{arith}
 use lib.Dec.{ltb}
-use lib.Pow.{pow-pos, pow-mono, pow-add, high-ones, split, shr-lt}
+use lib.Pow.{pow-pos, pow-add, high-ones, split}
 use lib.Bits.{bitAnd, bitOr, and-mask, and-comm, and-high, and-block, and-zero-r, or-shifted-r}
 use borrow.Author.Tests.{lt-ltb, le-ltb}
 use Rattle.arith.specs.Choice.{if_then_else_}

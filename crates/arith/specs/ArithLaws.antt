@@ -5,7 +5,7 @@ use Prim.Native.Nat.{ℕ, _+_, _-_, _*_, _/_, _%_, _^_, _≤_, _<_}
 use native.Mathlib.Nat.{min-eq-left, mod-eq-of-lt, sub-add-cancel, mul-add-mod-self-right, lt-of-le-of-lt}
 use native.Mathlib.Omega.{arith}
 use lib.Pow.{pow-mono, not-mod, high-ones, shr-le}
-use Rattle.arith.specs.Arith.{size, modAdd, modMul, modNeg, modNot, modShr, lowBits}
+use Rattle.arith.specs.Arith.{modAdd, modMul, modNeg, modNot, modShr, lowBits}
 use Rattle.arith.specs.Bv.{bvadd, bvmul, bvneg, bvnot, bvlshr}
 use Rattle.arith.specs.BvLaws.{shr-is}
 

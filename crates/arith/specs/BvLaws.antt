@@ -38,9 +38,6 @@ module _ (w : ℕ) {x : ℕ} (hx : x < 2 ^ w) where
   pub xor-none : bvxor x 0 ≡ x
   xor-none = same₁ (xor X none) X tt w hx
 
-  pub xor-all : bvxor x (ones w) ≡ bvnot w x
-  xor-all = same₁ (xor X all) (not X) tt w hx
-
   pub and-not : bvand x (bvnot w x) ≡ 0
   and-not = same₁ (and X (not X)) none tt w hx
 

@@ -1,4 +1,4 @@
--- What holds of both cases holds of the choice. Assumes nothing.
+-- A choice whose test is known. Assumes nothing.
 use mathlib.Core.Path.{_≡_, refl}
 use mathlib.Core.Bool.{Bool, true, false, not}
 use lib.Dec.{T}
@@ -12,7 +12,3 @@ module _ {A : Type 0} where
   pub if-no : (b : Bool) (x y : A) → T (not b) → (if b then x else y) ≡ y
   if-no true x y h = absurd h
   if-no false x y h = refl
-
-  pub if-both : (P : A → Type 0) (b : Bool) {x y : A} → (T b → P x) → (T (not b) → P y) → P (if b then x else y)
-  if-both P true f g = f tt
-  if-both P false f g = g tt

@@ -1,13 +1,13 @@
 -- Sums modulo 2 ^ w of numbers with signs, and the identities of Hacker's Delight (addition combined with logical operations)
 -- that the matchers rest on. Assumes nothing.
-use mathlib.Core.Path.{_≡_, refl, sym, ap, ap₂, _∙_, subst}
-use Prim.Native.Nat.{ℕ, zero, suc, _+_, _-_, _*_, _/_, _%_, _^_, _≤_, _<_}
-use native.Mathlib.Nat.{mod-lt, mod-eq-of-lt, mod-mod, add-mod, add-mod-mod, mod-add-mod, add-mod-right, add-mul-mod-self-right, le-of-lt, mul-comm, add-comm, add-zero, le-mul-of-pos-right}
+use mathlib.Core.Path.{_≡_, sym, ap, ap₂, _∙_}
+use Prim.Native.Nat.{ℕ, _+_, _-_, _*_, _%_, _^_, _≤_, _<_}
+use native.Mathlib.Nat.{mod-lt, mod-eq-of-lt, mod-mod, add-mod, add-mod-mod, mod-add-mod, add-mod-right, add-mul-mod-self-right, add-comm, add-zero, le-mul-of-pos-right}
 use native.Mathlib.Omega.{arith}
-use lib.Pow.{pow-pos, ones-lt, ones-sub-lt}
+use lib.Pow.{pow-pos, ones-sub-lt}
 use lib.Bits.{and-lt, or-lt, xor-lt}
-use Rattle.arith.specs.Bv.{ones, bvadd, bvmul, bvand, bvor, bvxor, bvnot, bvneg}
-use Rattle.arith.specs.TableLaws.{X, Y, Z, none, all, not, and, or, xor, one, times, plus, law}
+use Rattle.arith.specs.Bv.{ones, bvadd, bvand, bvor, bvxor, bvnot, bvneg}
+use Rattle.arith.specs.TableLaws.{X, Y, all, not, and, or, xor, one, times, plus, law}
 
 -- v is p - n modulo 2 ^ w
 pub record Diff (w v p n : ℕ) : Type 0 where

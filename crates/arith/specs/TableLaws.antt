@@ -1,11 +1,11 @@
 -- A law of bits is a law of every width: two sums of expressions in `&`, `|`, `^`, `!` that agree at width 1, for each choice of
 -- bits, agree at every width w, for each choice of numbers below 2 ^ w. Assumes nothing.
-use mathlib.Core.Path.{_≡_, refl, sym, ap, ap₂, _∙_, subst}
-use mathlib.Core.Bool.{Bool, true, false, _&&_}
-use Prim.Native.Nat.{ℕ, zero, suc, _+_, _-_, _*_, _/_, _%_, _^_, _≤_, _<_}
-use native.Mathlib.Nat.{pow-suc, mod-lt, div-add-mod', mul-add, mul-assoc, div-lt-iff-lt-mul, zero-lt-suc, mul-zero, not-suc-le-zero, le-of-suc-le-suc}
+use mathlib.Core.Path.{_≡_, refl, sym, ap, ap₂, _∙_}
+use mathlib.Core.Bool.{Bool, _&&_}
+use Prim.Native.Nat.{ℕ, zero, suc, _+_, _-_, _*_, _/_, _%_, _^_, _<_}
+use native.Mathlib.Nat.{pow-suc, div-add-mod', mul-add, mul-assoc, mul-zero, not-suc-le-zero, le-of-suc-le-suc}
 use native.Mathlib.Omega.{arith}
-use lib.Dec.{T, eqb, eqb→eq, lit<}
+use lib.Dec.{T, eqb, eqb→eq}
 use lib.Arith.{lt-one}
 use lib.Pow.{pow-pos, ones-lt, ones-sub-lt}
 use lib.Bits.{bitAnd, bitOr, bitXor, and-lt, or-lt, xor-lt, and-block, or-block, xor-block}

@@ -1,6 +1,6 @@
 -- What `check_at` has found of a subtree, from what it has found of the node and its children. Assumes nothing.
 use mathlib.Core.Path.{_≡_, refl, sym, ap, _∙_}
-use mathlib.Core.List.{List, [], _∷_, _++_}
+use mathlib.Core.List.{List, [], _∷_}
 use Prim.Native.Nat.{ℕ, zero, suc, _+_, _*_, _-_, _^_, _≤_, _<_}
 use native.Mathlib.Omega.{arith}
 use lib.ListN.{length, drop, getD, length-append}
@@ -16,12 +16,12 @@ use Rattle.expr.specs.declared.Counted.the-variants.{Count, Refused}
 use Rattle.expr.specs.Refusals.{refusal, reasonOf}
 use Rattle.expr.specs.Outcome.{Outcome, refused, accepted, mapped, _andThen_}
 use Rattle.expr.specs.OutcomeLaws.{then-accepted, then-refused, Made, mapped-made}
-use Rattle.expr.specs.Expr.{Expr, leaf, unary, binary, encode, nodes}
+use Rattle.expr.specs.Expr.{Expr, unary, binary, encode, nodes}
 use Rattle.expr.specs.ExprLaws.{length-encode}
 use Rattle.expr.specs.Parse.{Kind, none, one, two, arity, nodeKind, children, node, subtree}
 use Rattle.expr.specs.ParseLaws.{node-read, Begins, subtree-sound}
 use Rattle.expr.specs.Answers.{arityOutcome, countedOutcome}
-use Rattle.expr.proofs.TailLaws.{tail, tail-drop, length-tail, split-node}
+use Rattle.expr.proofs.TailLaws.{tail, tail-drop, length-tail}
 
 abbrev pub count : Expr × List ℕ → ℕ
 count p = nodes (p .0)

@@ -1,10 +1,10 @@
 -- What `check_tree` answers, from what it has found of the words. Assumes nothing.
 use mathlib.Core.Path.{_≡_, refl, sym, ap, _∙_}
 use mathlib.Core.Bool.{Bool, true, false, not}
-use mathlib.Core.List.{List, [], _∷_, _++_}
-use Prim.Native.Nat.{ℕ, suc, _*_, _^_, _≤_, _<_}
+use mathlib.Core.List.{List, [], _∷_}
+use Prim.Native.Nat.{ℕ, _*_, _^_, _≤_, _<_}
 use native.Mathlib.Omega.{arith}
-use lib.ListN.{length, length-append}
+use lib.ListN.{length}
 use borrow.Author.Tests.{not-true, not-false}
 use mir.Syntax.{w64}
 use mir.Val.{Fits}
@@ -13,8 +13,7 @@ use Rattle.expr.specs.declared.Counted.{Counted}
 use Rattle.expr.specs.declared.Counted.the-variants.{Count, Refused}
 use Rattle.expr.specs.Refusals.{refusal, reasonOf}
 use Rattle.expr.specs.Outcome.{Outcome, refused, accepted, mapped, _andThen_}
-use Rattle.expr.specs.OutcomeLaws.{Made}
-use Rattle.expr.specs.Expr.{Expr, encode, nodes}
+use Rattle.expr.specs.Expr.{Expr, nodes}
 use Rattle.expr.specs.Parse.{wordCountOk, subtree, whole, parse}
 use Rattle.expr.specs.Answers.{countedOutcome}
 use Rattle.expr.proofs.CheckLaws.{count, found, found-fits, rest-length}
@@ -58,5 +57,5 @@ module _ (ws : List ℕ) (b : Bool) (e : b ≡ wordCountOk (length ws)) where
           go (t, []) i = refl
           go (t, y ∷ ys) i = absurd (omega arith)
 
-pub words-fit : (m : ℕ) (ws : List ℕ) (x : Counted) → countedOutcome x ≡ mapped count (subtree 64 ws) → x ≡ Count m → length ws < 2 ^ 64 → Fits w64 (2 * m)
-words-fit m ws x g h l = omega (arith, found-fits 64 m ws x g h)
+pub words-fit : (d m : ℕ) (ws : List ℕ) (x : Counted) → countedOutcome x ≡ mapped count (subtree d ws) → x ≡ Count m → length ws < 2 ^ 64 → Fits w64 (2 * m)
+words-fit d m ws x g h l = omega (arith, found-fits d m ws x g h)

@@ -1,34 +1,39 @@
--- What `is_constant_subtree` and `has_var_dep` answer, from what `check_tree` and `has_variable` have found. Assumes nothing.
+-- What `has_var_dep` and `is_constant_subtree` answer, from what their callees answer. Assumes nothing.
 use mathlib.Core.Path.{_≡_, sym, ap, _∙_}
 use mathlib.Core.Bool.{Bool, not}
 use mathlib.Core.List.{List}
 use Prim.Native.Nat.{ℕ}
 use Rattle.expr.specs.declared.refusal.Refusal.{Refusal}
 use Rattle.expr.specs.declared.Counted.{Counted}
-use Rattle.expr.specs.declared.Counted.the-variants.{Count, Refused}
+use Rattle.expr.specs.declared.Counted.the-variants as counted
+use Rattle.expr.specs.declared.Verdict.{Verdict}
+use Rattle.expr.specs.declared.Verdict.the-variants as verdict
 use Rattle.expr.specs.Refusals.{reasonOf}
-use Rattle.expr.specs.Outcome.{Outcome, refused, accepted, mapped}
-use Rattle.expr.specs.OutcomeLaws.{mapped-accepted, Made, mapped-made, refused-mapped}
+use Rattle.expr.specs.Outcome.{refused, accepted, mapped}
+use Rattle.expr.specs.OutcomeLaws.{mapped-accepted, Made, mapped-made, refused-mapped, mapped-mapped}
 use Rattle.expr.specs.Expr.{Expr, encode, nodes}
 use Rattle.expr.specs.ExprUtils.{isConstantSubtree, hasVarDep}
 use Rattle.expr.specs.Parse.{parse}
 use Rattle.expr.specs.ParseLaws.{parse-sound}
-use Rattle.expr.specs.Answers.{countedOutcome}
+use Rattle.expr.specs.Answers.{countedOutcome, verdictOutcome}
 use Rattle.expr.proofs.VariableLaws.{constant-is}
 
 module _ (ws : List ℕ) (x : Counted) (e : countedOutcome x ≡ mapped nodes (parse ws)) where
-  pub verdict-refused : (f : Expr → Bool) (r : Refusal) → x ≡ Refused r → refused (reasonOf r) ≡ mapped f (parse ws)
-  verdict-refused f r g = refused-mapped nodes f (parse ws) (ap countedOutcome (sym g) ∙ e)
+  pub dep-refused : (r : Refusal) → x ≡ counted.Refused r → refused (reasonOf r) ≡ mapped hasVarDep (parse ws)
+  dep-refused r g = refused-mapped nodes hasVarDep (parse ws) (ap countedOutcome (sym g) ∙ e)
 
-  module _ (n : ℕ) (g : x ≡ Count n) (b : Bool) (h : (t : Expr) → ws ≡ encode t → b ≡ hasVarDep t) where
-    read : Made nodes (parse ws) n
-    read = mapped-made nodes (parse ws) (ap countedOutcome (sym g) ∙ e)
+  pub dep-known : (n : ℕ) (b : Bool) → x ≡ counted.Count n → ((t : Expr) → ws ≡ encode t → b ≡ hasVarDep t) → accepted b ≡ mapped hasVarDep (parse ws)
+  dep-known n b g h =
+      let m : Made nodes (parse ws) n = mapped-made nodes (parse ws) (ap countedOutcome (sym g) ∙ e) in
+      ap accepted (h (m .answer) (parse-sound ws (m .answer) (m .was) .words)) ∙ sym (mapped-accepted (m .was) hasVarDep)
 
-    is-dep : b ≡ hasVarDep (read .answer)
-    is-dep = h (read .answer) (parse-sound ws (read .answer) (read .was) .words)
+module _ (ws : List ℕ) (x : Verdict) (e : verdictOutcome x ≡ mapped hasVarDep (parse ws)) where
+  -- the answer to one question is the other's, turned round
+  turned : mapped not (verdictOutcome x) ≡ mapped isConstantSubtree (parse ws)
+  turned = ap (mapped not) e ∙ mapped-mapped not hasVarDep isConstantSubtree constant-is (parse ws)
 
-    pub dep-known : accepted b ≡ mapped hasVarDep (parse ws)
-    dep-known = ap accepted is-dep ∙ sym (mapped-accepted (read .was) hasVarDep)
+  pub constant-refused : (r : Refusal) → x ≡ verdict.Refused r → refused (reasonOf r) ≡ mapped isConstantSubtree (parse ws)
+  constant-refused r g = ap (λ (y : Verdict). mapped not (verdictOutcome y)) (sym g) ∙ turned
 
-    pub constant-known : accepted (not b) ≡ mapped isConstantSubtree (parse ws)
-    constant-known = ap accepted (ap not is-dep ∙ constant-is (read .answer)) ∙ sym (mapped-accepted (read .was) isConstantSubtree)
+  pub constant-known : (b : Bool) → x ≡ verdict.Known b → accepted (not b) ≡ mapped isConstantSubtree (parse ws)
+  constant-known b g = ap (λ (y : Verdict). mapped not (verdictOutcome y)) (sym g) ∙ turned

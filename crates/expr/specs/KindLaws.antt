@@ -1,5 +1,5 @@
 -- A kind and its two words. Assumes nothing.
-use mathlib.Core.Path.{_≡_, refl, sym, ap, _∙_, subst}
+use mathlib.Core.Path.{_≡_, refl, ap, _∙_, subst}
 use mathlib.Core.List.{List, [], _∷_}
 use Prim.Native.Nat.{ℕ, zero, suc, _≤_}
 use native.Mathlib.Omega.{arith}
@@ -9,7 +9,7 @@ use borrow.Author.Tests.{le-ltb, ne-eqb}
 use Rattle.expr.specs.declared.refusal.Reason.{Reason}
 use Rattle.expr.specs.Refusals.{refusal}
 use Rattle.expr.specs.Outcome.{Outcome, refused, accepted, mapped}
-use Rattle.expr.specs.Expr.{Leaf, Constant, Variable, Unary, Not, Neg, Shr, ZExt, SExt, Trunc, Binary, Add, Mul, And, Or, Xor, Concat, leafNumber, leafOperand, unaryNumber, unaryOperand, binaryNumber}
+use Rattle.expr.specs.Expr.{Constant, Variable, Not, Neg, Shr, ZExt, SExt, Trunc, Add, Mul, And, Or, Xor, Concat, leafNumber, leafOperand, unaryNumber, unaryOperand, binaryNumber}
 use Rattle.expr.specs.Parse.{Kind, none, one, two, arity, arityOf, kinds, kindAt, operandOk}
 
 -- the kind word and the operand word

@@ -1,5 +1,5 @@
 -- Reading words: the refusals 2, 6, 3, 4, 5 and 7 in document 01's order. Definitions only.
-use mathlib.Core.Bool.{Bool, true, false, not, _&&_, _||_}
+use mathlib.Core.Bool.{Bool, true, not, _&&_, _||_}
 use mathlib.Core.List.{List, [], _∷_}
 use Prim.Native.Nat.{ℕ, zero, suc, _%_, _≤_}
 use lib.Dec.{T, leb, ltb, eqb}

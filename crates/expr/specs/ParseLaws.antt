@@ -2,16 +2,15 @@
 use mathlib.Core.Path.{_≡_, refl, sym, ap, ap₂, _∙_, subst}
 use mathlib.Core.Bool.{Bool, true, false, not, _&&_}
 use mathlib.Core.List.{List, [], _∷_, _++_, append-assoc, append-nil}
-use Prim.Native.Nat.{ℕ, zero, suc, _+_, _*_, _%_, _≤_}
+use Prim.Native.Nat.{ℕ, zero, suc, _*_, _%_, _≤_}
 use native.Mathlib.Nat.{pos-of-ne-zero}
 use native.Mathlib.Omega.{arith}
-use lib.Dec.{T, leb, eqb, leb→le, eqb→eq}
+use lib.Dec.{T, leb, eqb, leb→le}
 use lib.ListN.{length}
-use mir.Facts.{and-yes, yes-and, yes-leb, yes-eqb, no-eqb, T-not-not}
+use mir.Facts.{and-yes, yes-and, yes-leb, yes-eqb, no-eqb}
 use borrow.Author.Tests.{eqb-false}
 use Rattle.arith.specs.Choice.{if_then_else_}
-use Rattle.arith.specs.ChoiceLaws.{if-yes, if-no, if-both}
-use Rattle.expr.specs.declared.refusal.Reason.{Reason}
+use Rattle.arith.specs.ChoiceLaws.{if-yes, if-no}
 use Rattle.expr.specs.Refusals.{refusal}
 use Rattle.expr.specs.Outcome.{Outcome, refused, accepted, _andThen_}
 use Rattle.expr.specs.Expr.{Expr, leaf, unary, binary, Binary, Add, Mul, And, Or, Xor, Concat, unaryNumber, unaryOperand, binaryNumber, encode, nodes, depth}

@@ -1,14 +1,14 @@
 -- The first subtree of words that begin with a tree's takes the words of that tree. Assumes nothing.
-use mathlib.Core.Path.{_≡_, refl, sym, ap, _∙_, subst}
+use mathlib.Core.Path.{_≡_, refl, sym, ap, _∙_}
 use mathlib.Core.List.{List, [], _∷_, _++_, append-assoc}
 use Prim.Native.Nat.{ℕ, suc, _+_, _*_}
 use native.Mathlib.Omega.{arith}
 use lib.Dec.{T}
 use lib.ListN.{length}
 use Rattle.arith.specs.ChoiceLaws.{if-yes}
-use Rattle.expr.specs.Outcome.{Outcome, accepted, mapped, _andThen_}
+use Rattle.expr.specs.Outcome.{accepted, mapped}
 use Rattle.expr.specs.Expr.{Expr, leaf, unary, binary, encode, nodes}
-use Rattle.expr.specs.Parse.{Kind, none, one, two, arity, arityOf, wordCountOk}
+use Rattle.expr.specs.Parse.{none, one, two, arityOf, wordCountOk}
 use Rattle.expr.specs.Span.{dueWords, spanOf}
 use Rattle.expr.specs.OutcomeLaws.{then-accepted, mapped-mapped}
 use Rattle.expr.specs.KindLaws.{number, operand, number-arity}

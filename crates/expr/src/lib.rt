@@ -1,11 +1,10 @@
 // Trees as words, after expr.rs and expr_utils.rs: two words a node, kind then operand, a node before its children, left child
 // first. A subtree is a part of the lent words, handed on as such.
 ghost use mathlib.Core.Path.{_≡_};
-ghost use mathlib.Core.List.{_++_};
 ghost use Rattle.expr.specs.Expr.{Expr, encode, nodes};
 ghost use Rattle.expr.specs.ExprUtils.{hasVarDep, isConstantSubtree};
 ghost use Rattle.expr.specs.Outcome.{mapped};
-ghost use Rattle.expr.specs.Parse.{arityOf, arity, operandOk, wordCountOk, nodeKind, subtree, parse};
+ghost use Rattle.expr.specs.Parse.{arity, arityOf, operandOk, nodeKind, subtree, wordCountOk, parse};
 ghost use Rattle.expr.specs.Span.{spanOf};
 ghost use Rattle.expr.specs.SameWords.{sameWords};
 ghost use Rattle.expr.specs.Answers.{arityOutcome, countedOutcome, verdictOutcome};
@@ -195,16 +194,6 @@ fn has_variable(words: &[u64]) -> bool
     false
 }
 
-// Whether the tree has no Variable.
-pub fn is_constant_subtree(words: &[u64]) -> Verdict
-    ensures { λ r. ⌜ verdictOutcome r ≡ mapped isConstantSubtree (parse (now (words .entry))) ⌝ }
-{
-    match check_tree(words) {
-        Counted::Refused(r) => Verdict::Refused(r),
-        Counted::Count(_) => Verdict::Known(!has_variable(words)),
-    }
-}
-
 // Whether the tree has a Variable.
 pub fn has_var_dep(words: &[u64]) -> Verdict
     ensures { λ r. ⌜ verdictOutcome r ≡ mapped hasVarDep (parse (now (words .entry))) ⌝ }
@@ -212,5 +201,15 @@ pub fn has_var_dep(words: &[u64]) -> Verdict
     match check_tree(words) {
         Counted::Refused(r) => Verdict::Refused(r),
         Counted::Count(_) => Verdict::Known(has_variable(words)),
+    }
+}
+
+// Whether the tree has no Variable.
+pub fn is_constant_subtree(words: &[u64]) -> Verdict
+    ensures { λ r. ⌜ verdictOutcome r ≡ mapped isConstantSubtree (parse (now (words .entry))) ⌝ }
+{
+    match has_var_dep(words) {
+        Verdict::Refused(r) => Verdict::Refused(r),
+        Verdict::Known(dep) => Verdict::Known(!dep),
     }
 }

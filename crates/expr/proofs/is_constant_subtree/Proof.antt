@@ -1,10 +1,10 @@
 -- `expr::is_constant_subtree` meets its contract. Assumes nothing.
 use borrow.Author.Needs.{needs}
-use Rattle.expr.proofs.VerdictLaws.{verdict-refused, constant-known}
+use Rattle.expr.proofs.VerdictLaws.{constant-refused, constant-known}
 use Rattle.expr.proofs.is_constant_subtree.Statement.{statement}
 use Rattle.expr.proofs.is_constant_subtree.Tie as tie
 
-ruleset rules = (needs, verdict-refused, constant-known)
+ruleset rules = (needs, constant-refused, constant-known)
 
 pub is-constant-subtree-spec : {M : Type 1} → statement M
 is-constant-subtree-spec =
@@ -13,6 +13,5 @@ is-constant-subtree-spec =
     (λ c κs. search rules)
     (λ c. search rules)
     (λ c. search rules)
-    (λ c κs. search rules)
     (λ c. search rules)
     (λ c. search rules))

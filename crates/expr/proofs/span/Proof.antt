@@ -1,6 +1,5 @@
 -- `expr::span` meets its contract. The measure is what is left of the words. Assumes nothing.
 use Prim.Native.Nat.{_-_}
-use native.Mathlib.Omega.{arith}
 use lib.ListN.{length}
 use borrow.Author.Needs.{needs}
 use Rattle.expr.proofs.DueLaws.{Going, span-count, going-first, span-done, words-ended, kind-refused, going-zero, going-one, going-two}
