@@ -52,8 +52,7 @@ fn operand_ok(kind: u64, operand: u64) -> bool
 {
     match kind {
         0 => true,
-        1 => operand <= 0xffff_ffff,
-        9..=12 => operand <= 0xffff_ffff,
+        1 | 9..=12 => operand <= 0xffff_ffff,
         _ => operand == 0,
     }
 }

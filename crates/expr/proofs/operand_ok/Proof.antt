@@ -34,8 +34,13 @@ module _ (k o : ℕ) where
 
 ruleset rules = (constant, variable, number, below, above)
 
-returns-4 : tie.Need-returns-4
-returns-4 c = ⊎-elim (λ z. search rules) (λ z. search rules) (c .if1 .came)
+-- any other kind: below 9 or above 12
+returns-2 : tie.Need-returns-2
+returns-2 c = ⊎-elim (λ z. search rules) (λ z. search rules) (c .if1 .came)
+
+-- kind 1, or 9 to 12
+returns-3 : tie.Need-returns-3
+returns-3 c = ⊎-elim (λ z. search rules) (λ z. search rules) (c .match .came)
 
 pub operand-ok-spec : {M : Type 1} → statement M
-operand-ok-spec = tie.close (tie.spec (λ c. search rules) (λ c. search rules) (λ c. search rules) returns-4)
+operand-ok-spec = tie.close (tie.spec (λ c. search rules) returns-2 returns-3)
