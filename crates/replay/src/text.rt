@@ -1,0 +1,84 @@
+// The fields of a line, and the numbers that they stand for.
+ghost use Prim.Native.Nat.{_≤_};
+ghost use lib.ListN.{length};
+
+enum Field {
+    Number(u64),
+    Bad,
+}
+
+// Whether a text is a list, and how many of its words were read.
+pub(crate) struct Listed {
+    pub good: bool,
+    pub count: usize,
+}
+
+// The first place from `from` on where `byte` stands; the length where there is none.
+pub(crate) fn find(s: &[u8], from: usize, byte: u8) -> usize
+    requires { ⌜ from ≤ length (now s) ⌝ }
+    ensures { λ r. ⌜ (from ≤ r) × (r ≤ length (now (s .entry))) ⌝ }
+{
+    let mut i = from;
+    while i < s.len() {
+        if s[i] == byte {
+            return i;
+        }
+        i += 1;
+    }
+    i
+}
+
+// The number of a hexadecimal digit; 16: the byte is none.
+fn digit(byte: u8) -> u64 {
+    match byte {
+        b'0'..=b'9' => (byte - b'0') as u64,
+        b'a'..=b'f' => (byte - b'a') as u64 + 10,
+        _ => 16,
+    }
+}
+
+// At most 16 digits, so that none is shifted out.
+fn number(digits: &[u8]) -> Field {
+    if digits.len() == 0 {
+        return Field::Bad;
+    }
+    if 16 < digits.len() {
+        return Field::Bad;
+    }
+    let mut n: u64 = 0;
+    let mut i = 0;
+    while i < digits.len() {
+        let d = digit(digits[i]);
+        if 15 < d {
+            return Field::Bad;
+        }
+        n = (n << 4) | d;
+        i += 1;
+    }
+    Field::Number(n)
+}
+
+// Puts the words of a list at the front of `words`. In its text a space stands before each of them.
+pub(crate) fn words_in(list: &[u8], words: &mut [u64]) -> Listed
+    ensures { λ r. ⌜ r .count ≤ length (now (words .entry)) ⌝ }
+{
+    let mut count = 0;
+    let mut at = 0;
+    while at < list.len() {
+        if list[at] != b' ' {
+            return Listed { good: false, count };
+        }
+        let start = at + 1;
+        let end = find(list, start, b' ');
+        let Field::Number(n) = number(&list[start..end]) else {
+            return Listed { good: false, count };
+        };
+        if words.len() <= count {
+            return Listed { good: false, count };
+        }
+        words[count] = n;
+        count += 1;
+        at = end;
+    }
+    Listed { good: true, count }
+}

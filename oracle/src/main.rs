@@ -1,0 +1,32 @@
+//! Reads one request a line and writes it back with its answer; README.md has the grammar.
+use std::io::{self, BufWriter, Write};
+use std::process::ExitCode;
+
+/// The original Rust, which seeks itself under `crate::core`.
+#[allow(dead_code)]
+mod core {
+    include!(concat!(env!("OUT_DIR"), "/core.rs"));
+}
+mod answer;
+mod words;
+
+/// Ends at the first line that is no request, so that none gets into a stored list.
+fn answer_all() -> Result<(), String> {
+    let mut out = BufWriter::new(io::stdout().lock());
+    for (before, line) in io::stdin().lines().enumerate() {
+        let line = line.map_err(|e| e.to_string())?;
+        let answer = answer::answer(&line).map_err(|e| format!("line {}: {e}", before + 1))?;
+        writeln!(out, "{line} = {answer}").map_err(|e| e.to_string())?;
+    }
+    out.flush().map_err(|e| e.to_string())
+}
+
+fn main() -> ExitCode {
+    match answer_all() {
+        Ok(()) => ExitCode::SUCCESS,
+        Err(e) => {
+            eprintln!("{e}");
+            ExitCode::FAILURE
+        }
+    }
+}

@@ -1,0 +1,113 @@
+//! Trees as word lists, and the refusals of lists that are none. The original knows no words: this file is the harness's own.
+use crate::core::expr::{Expr, Kind};
+use smallvec::SmallVec;
+use std::sync::Arc;
+
+const MAX_WORDS: usize = 1024;
+const MAX_DEPTH: usize = 64;
+const MAX_U32: u64 = u32::MAX as u64;
+
+/// The number of a refusal.
+pub type Refusal = u32;
+
+/// The tree that the whole list is, or the first refusal of 2, then 6, 3, 4, 5 at each node, then 7.
+pub fn read(words: &[u64]) -> Result<Arc<Expr>, Refusal> {
+    check_length(words)?;
+    check_nodes(words)?;
+    let (tree, used) = build(words);
+    assert_eq!(used, words.len());
+    Ok(tree)
+}
+
+/// The number of words that the first subtree takes, or the first refusal of 2, then 6, 3 at each node.
+pub fn span(words: &[u64]) -> Result<usize, Refusal> {
+    check_length(words)?;
+    let mut due = 1;
+    let mut at = 0;
+    while due > 0 {
+        if at == words.len() {
+            return Err(6);
+        }
+        due = due - 1 + children(words[at]).ok_or(3u32)?;
+        at += 2;
+    }
+    Ok(at)
+}
+
+fn check_length(words: &[u64]) -> Result<(), Refusal> {
+    if words.is_empty() || words.len() % 2 == 1 || words.len() > MAX_WORDS {
+        return Err(2);
+    }
+    Ok(())
+}
+
+fn check_nodes(words: &[u64]) -> Result<(), Refusal> {
+    let mut nodes = words.chunks(2);
+    let mut due = vec![1]; // depths of the nodes still due, the next one last
+    while let Some(depth) = due.pop() {
+        let node = nodes.next().ok_or(6u32)?;
+        let children = children(node[0]).ok_or(3u32)?;
+        if !operand_fits(node[0], node[1]) {
+            return Err(4);
+        }
+        if depth > MAX_DEPTH {
+            return Err(5);
+        }
+        due.extend(vec![depth + 1; children]);
+    }
+    match nodes.next() {
+        None => Ok(()),
+        Some(_) => Err(7),
+    }
+}
+
+fn children(kind: u64) -> Option<usize> {
+    match kind {
+        0 | 1 => Some(0),
+        7..=12 => Some(1),
+        2..=6 | 13 => Some(2),
+        _ => None,
+    }
+}
+
+fn operand_fits(kind: u64, operand: u64) -> bool {
+    match kind {
+        0 => true,
+        1 | 9..=12 => operand <= MAX_U32,
+        _ => operand == 0,
+    }
+}
+
+/// The first subtree of words that were checked, and how many it takes; the original tells the number of children.
+fn build(words: &[u64]) -> (Arc<Expr>, usize) {
+    let kind = kind_of(words[0], words[1]);
+    let mut children = SmallVec::new();
+    let mut used = 2;
+    for _ in 0..kind.arity() {
+        let (child, taken) = build(&words[used..]);
+        children.push(child);
+        used += taken;
+    }
+    (Arc::new(Expr { kind, children }), used)
+}
+
+fn kind_of(kind: u64, operand: u64) -> Kind {
+    let small = || u32::try_from(operand).unwrap();
+    match kind {
+        0 => Kind::Constant(operand),
+        1 => Kind::Variable(small()),
+        2 => Kind::Add,
+        3 => Kind::Mul,
+        4 => Kind::And,
+        5 => Kind::Or,
+        6 => Kind::Xor,
+        7 => Kind::Not,
+        8 => Kind::Neg,
+        9 => Kind::Shr(small()),
+        10 => Kind::ZExt(small()),
+        11 => Kind::SExt(small()),
+        12 => Kind::Trunc(small()),
+        13 => Kind::Concat,
+        _ => unreachable!(),
+    }
+}
