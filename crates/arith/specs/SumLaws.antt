@@ -83,7 +83,7 @@ module _ (w : ℕ) where
       ∙ add-mul-mod-self-right (q + n) j (2 ^ w) ∙ sym (moved e n) ∙ ap (λ (t : ℕ). (u + t) % 2 ^ w) (add-comm k n))
       ∙ mod-eq-of-lt (e .below)
 
-  -- the same against a diff-plain number
+  -- the same against a plain number
   pub diff-value : {v p n : ℕ} → Diff w v p n → {u : ℕ} → u < 2 ^ w → (i j : ℕ) → p + i * 2 ^ w ≡ u + n + j * 2 ^ w → v ≡ u
   diff-value {v} {p} {n} d {u} hu i j h = diff-unique d (diff-plain hu) i j (omega (arith, h))
 

@@ -1,4 +1,4 @@
--- A law of bits is a law of every width: two sums of expressions in `&`, `|`, `^`, `!` that agree at width 1, for each choice of
+-- A law of bits is a law of every width: two sums of terms in `&`, `|`, `^`, `!` that agree at width 1, for each choice of
 -- bits, agree at every width w, for each choice of numbers below 2 ^ w. Assumes nothing.
 use mathlib.Core.Path.{_≡_, refl, sym, ap, ap₂, _∙_}
 use mathlib.Core.Bool.{Bool, _&&_}
@@ -11,21 +11,21 @@ use lib.Pow.{pow-pos, ones-lt, ones-sub-lt}
 use lib.Bits.{bitAnd, bitOr, bitXor, and-lt, or-lt, xor-lt, and-block, or-block, xor-block}
 use mir.Facts.{and-yes}
 
--- an expression in three numbers, in 0 and in the number with every bit set
-pub data Ex : Type 0 where
-  X Y Z : Ex
-  none all : Ex
-  not : Ex → Ex
-  and or xor : Ex → Ex → Ex
+-- a term in three numbers, in 0 and in the number with every bit set
+pub data Term : Type 0 where
+  X Y Z : Term
+  none all : Term
+  not : Term → Term
+  and or xor : Term → Term → Term
 
--- a sum of multiples of expressions
+-- a sum of multiples of terms
 pub data Sum : Type 0 where
-  one : Ex → Sum
-  times : ℕ → Ex → Sum
+  one : Term → Sum
+  times : ℕ → Term → Sum
   plus : Sum → Sum → Sum
 
 module _ (w x y z : ℕ) where
-  abbrev pub at : Ex → ℕ
+  abbrev pub at : Term → ℕ
   at X = x
   at Y = y
   at Z = z
@@ -42,7 +42,7 @@ module _ (w x y z : ℕ) where
   sum (plus s t) = sum s + sum t
 
   module _ (hx : x < 2 ^ w) (hy : y < 2 ^ w) (hz : z < 2 ^ w) where
-    pub at-lt : (e : Ex) → at e < 2 ^ w
+    pub at-lt : (e : Term) → at e < 2 ^ w
     at-lt X = hx
     at-lt Y = hy
     at-lt Z = hz
@@ -55,22 +55,22 @@ module _ (w x y z : ℕ) where
 
 -- the lowest bit apart from the rest
 module _ (w x y z a b c : ℕ) (hx : x < 2 ^ w) (hy : y < 2 ^ w) (hz : z < 2 ^ w) (ha : a < 2) (hb : b < 2) (hc : c < 2) where
-  abbrev hi : Ex → ℕ
+  abbrev hi : Term → ℕ
   hi = at w x y z
 
-  abbrev lo : Ex → ℕ
+  abbrev lo : Term → ℕ
   lo = at 1 a b c
 
-  abbrev whole : Ex → ℕ
+  abbrev whole : Term → ℕ
   whole = at (suc w) (x * 2 + a) (y * 2 + b) (z * 2 + c)
 
-  hi-lt : (e : Ex) → hi e < 2 ^ w
+  hi-lt : (e : Term) → hi e < 2 ^ w
   hi-lt = at-lt w x y z hx hy hz
 
-  lo-lt : (e : Ex) → lo e < 2
+  lo-lt : (e : Term) → lo e < 2
   lo-lt = at-lt 1 a b c ha hb hc
 
-  at-split : (e : Ex) → whole e ≡ hi e * 2 + lo e
+  at-split : (e : Term) → whole e ≡ hi e * 2 + lo e
   at-split X = refl
   at-split Y = refl
   at-split Z = refl
@@ -129,8 +129,8 @@ module _ (s t : Sum) (ok : T (agree s t)) where
       ∙ ap₂ (λ (m n : ℕ). m * 2 + n) (law w (x / 2) (y / 2) (z / 2) (half-lt w x hx) (half-lt w y hy) (half-lt w z hz)) (on-bits (x % 2) (y % 2) (z % 2) (omega arith) (omega arith) (omega arith))
       ∙ sym (sum-digits t w x y z hx hy hz)
 
--- two expressions that agree on bits, in one, two or three numbers
-module _ (e f : Ex) (ok : T (agree (one e) (one f))) (w : ℕ) where
+-- two terms that agree on bits, in one, two or three numbers
+module _ (e f : Term) (ok : T (agree (one e) (one f))) (w : ℕ) where
   pub same₃ : {x y z : ℕ} → x < 2 ^ w → y < 2 ^ w → z < 2 ^ w → at w x y z e ≡ at w x y z f
   same₃ {x} {y} {z} hx hy hz = law (one e) (one f) ok w x y z hx hy hz
 
