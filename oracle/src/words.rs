@@ -10,7 +10,7 @@ const MAX_U32: u64 = u32::MAX as u64;
 /// The number of a refusal.
 pub type Refusal = u32;
 
-/// The tree that the whole list is, or the first refusal of 2, then 6, 3, 4, 5 at each node, then 7.
+/// The tree that the whole list is, or the first refusal: 2 for the list, one of 6, 3, 4, 5 for a node, 7 for the end.
 pub fn read(words: &[u64]) -> Result<Arc<Expr>, Refusal> {
     check_length(words)?;
     check_nodes(words)?;

@@ -1,5 +1,5 @@
--- Sums modulo 2 ^ w of numbers with signs, and the identities of Hacker's Delight (addition combined with logical operations)
--- that the matchers rest on. Assumes nothing.
+-- Sums modulo 2 ^ w of numbers with signs, and the identities between sums and bitwise operations that the matchers rest on (they
+-- are in Hacker's Delight). Assumes nothing.
 use mathlib.Core.Path.{_≡_, sym, ap, ap₂, _∙_}
 use Prim.Native.Nat.{ℕ, _+_, _-_, _*_, _%_, _^_, _≤_, _<_}
 use native.Mathlib.Nat.{mod-lt, mod-eq-of-lt, mod-mod, add-mod, add-mod-mod, mod-add-mod, add-mod-right, add-mul-mod-self-right, add-comm, add-zero, le-mul-of-pos-right}

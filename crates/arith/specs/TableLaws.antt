@@ -1,5 +1,5 @@
--- A law of bits is a law of every width: two sums of terms in `&`, `|`, `^`, `!` that agree at width 1, for each choice of
--- bits, agree at every width w, for each choice of numbers below 2 ^ w. Assumes nothing.
+-- A law of bits is a law of every width: if two sums of terms in `&`, `|`, `^`, `!` have the same truth table, they are equal for
+-- all numbers below 2 ^ w, at every w. Assumes nothing.
 use mathlib.Core.Path.{_≡_, refl, sym, ap, ap₂, _∙_}
 use mathlib.Core.Bool.{Bool, _&&_}
 use Prim.Native.Nat.{ℕ, zero, suc, _+_, _-_, _*_, _/_, _%_, _^_, _<_}

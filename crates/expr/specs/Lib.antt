@@ -6,6 +6,7 @@ pub mod Parse
 pub mod Span
 pub mod SameWords
 pub mod Answers
+pub mod RefusalLaws
 pub mod OutcomeLaws
 pub mod KindLaws
 pub mod ExprLaws

@@ -20,7 +20,8 @@ arity (none k) = 0
 arity (one k) = 1
 arity (two k) = 2
 
--- the number of children by the kind word: 0 and 1 have none, 2 to 6 and 13 two, 7 to 12 one; 3 for a kind above 13
+-- the number of children that a kind word asks for: leaves are below 2, binary kinds below 7, unary kinds below 13, and 13, Concat, is
+-- binary again; refusal 3 above that
 unfoldable pub arityOf : ℕ → Outcome ℕ
 arityOf k =
     if ltb k 2 then accepted 0 else
@@ -41,7 +42,8 @@ kindAt k [] = refused (refusal 3)
 kindAt zero (κ ∷ κs) = accepted κ
 kindAt (suc k) (κ ∷ κs) = kindAt k κs
 
--- a Constant's operand is any word; for kinds 1 and 9 to 12 it is at most 4,294,967,295; for the rest it is 0
+-- which operand words a kind allows: Constant all of them; Variable and the kinds that hold a shift or a width, 9 to 12, those of 32
+-- bits; every other kind 0 alone
 unfoldable pub operandOk : ℕ → ℕ → Bool
 operandOk k o =
     if eqb k 0 then true else

@@ -1,4 +1,4 @@
--- Two trees are equal when their words are. Definitions only.
+-- Equality of word lists, by which trees are compared. Definitions only.
 use mathlib.Core.Bool.{Bool, true, false, _&&_}
 use mathlib.Core.List.{List, [], _∷_}
 use Prim.Native.Nat.{ℕ}

@@ -1,4 +1,4 @@
--- How many words the first subtree takes. Definitions only.
+-- The length of the first subtree in words. Definitions only.
 use mathlib.Core.List.{List, [], _∷_}
 use Prim.Native.Nat.{ℕ, zero, suc, _+_}
 use lib.ListN.{length}

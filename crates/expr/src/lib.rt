@@ -1,5 +1,5 @@
-// Trees as words, after expr.rs and expr_utils.rs: two words a node, kind then operand, a node before its children, left child
-// first. A subtree is a part of the lent words, handed on as such.
+// Trees as words, after expr.rs and expr_utils.rs. A node is a kind word and an operand word; the words of its children follow, from
+// left to right. A child is passed on as the part of the caller's slice where its words begin.
 ghost use mathlib.Core.Path.{_≡_};
 ghost use Rattle.expr.specs.Expr.{Expr, encode, nodes};
 ghost use Rattle.expr.specs.ExprUtils.{hasVarDep, isConstantSubtree};
@@ -34,7 +34,7 @@ pub enum Verdict {
     Refused(Refusal),
 }
 
-// The number of children by the kind word. No other place decides it.
+// The number of children of a kind word. Nothing else in the repository decides it.
 pub fn arity_of(kind: u64) -> Arity
     ensures { λ r. ⌜ arityOutcome r ≡ arityOf kind ⌝ }
 {
@@ -137,7 +137,7 @@ pub fn check_tree(words: &[u64]) -> Counted
     }
 }
 
-// How many words the first subtree takes, or the refusal; operands, depth and what stands after it are not looked at.
+// The length of the first subtree in words, or the refusal. It looks at no operand, no depth and nothing behind the subtree.
 pub fn span(words: &[u64]) -> Counted
     ensures { λ r. ⌜ countedOutcome r ≡ spanOf (now (words .entry)) ⌝ }
 {

@@ -1,39 +1,39 @@
-// Why a call is turned down: document 01's refusals 1 to 15. The list is final; a crate with further refusals answers an enum of
-// its own that holds this one.
+// Why a call is turned down: document 01's refusals 1 to 15. The list is closed: a crate that knows more refusals has its own enum
+// around this one.
 ghost use mathlib.Core.Path.{_≡_};
 ghost use Rattle.expr.specs.Refusals.{reasonOf};
 
 pub enum Refusal {
-    // 1: the call's width is outside 1 to 64.
+    // 1: the call's width is not one of 1 to 64.
     WidthOutOfRange,
-    // 2: no words, an odd number, or over 1,024.
+    // 2: the list is empty, has an odd length, or has more than 1,024 words.
     WordCount,
-    // 3: a kind above 13.
+    // 3: no kind has this number.
     UnknownKind,
-    // 4: an operand that its kind does not allow.
+    // 4: the kind does not allow this operand.
     OperandOutOfRange,
-    // 5: depth over 64.
+    // 5: a node below level 64.
     TooDeep,
-    // 6: the words end where a child is due.
+    // 6: a node or one of its children is missing at the end.
     WordsEnd,
-    // 7: words are left over after the tree.
+    // 7: something stands behind the tree.
     WordsLeftOver,
     // 8: the tree is not of one width.
     NotUniform,
-    // 9: the output is too small.
+    // 9: the lent output cannot hold the answer.
     OutputTooSmall,
     // 10 to 13 stand for the Rust's `InvalidArgument`.
-    // 10: a width outside 1 to 64, with that width.
+    // 10: a part of the tree has a width that is not one of 1 to 64; carries it.
     UnsupportedWidth(u32),
-    // 11: operands of different widths, left and right.
+    // 11: the operands' widths differ; carries left and right.
     WidthMismatch(u32, u32),
-    // 12: an extension narrower than its child, target and child.
+    // 12: an extension to fewer bits than its child has; carries target and child.
     NarrowingExtension(u32, u32),
-    // 13: a truncation wider than its child, target and child.
+    // 13: a truncation to more bits than its child has; carries target and child.
     WideningTruncation(u32, u32),
     // 14: a line that is no frame.
     NoFrame,
-    // 15: a variable without a lent word.
+    // 15: the setting has no word for a variable.
     NoWord,
 }
 
