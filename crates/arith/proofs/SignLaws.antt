@@ -1,16 +1,16 @@
 -- What `sext` computes, one law for each of its answers. Assumes nothing.
-use mathlib.Core.Path.{_≡_, sym, ap, ap₂, _∙_, subst}
+use mathlib.Core.Path.{_≡_, refl, sym, ap, ap₂, _∙_, subst}
 use mathlib.Core.Bool.{Bool, true, false}
 use Prim.Native.Nat.{ℕ, suc, _+_, _-_, _*_, _/_, _%_, _^_, _≤_, _<_, min}
-use native.Mathlib.Nat.{min-le-right, min-le-left, le-min, le-trans, mod-eq-of-lt, mul-assoc, add-zero, add-comm, sub-add-cancel, add-mul-mod-self-right, mod-lt, mod-add-mod, div-eq-of-lt, div-add-mod', pow-suc, zero-mul, mod-lt, div-lt-iff-lt-mul}
+use native.Mathlib.Nat.{min-le-right, min-le-left, le-min, le-trans, mod-eq-of-lt, mul-assoc, add-zero, add-comm, sub-add-cancel, add-mul-mod-self-right, mod-lt, mod-add-mod, div-eq-of-lt, div-add-mod', pow-suc, zero-mul, div-lt-iff-lt-mul, pos-of-ne-zero}
 use native.Mathlib.Decide.{decLe}
 use native.Mathlib.Omega.{arith}
-use lib.Dec.{ltb}
+use lib.Dec.{ltb, leb}
 use lib.Pow.{pow-pos, pow-add, high-ones, split}
 use lib.Bits.{bitAnd, bitOr, and-mask, and-comm, and-high, and-block, and-zero-r, or-shifted-r}
-use borrow.Author.Tests.{lt-ltb, le-ltb}
+use borrow.Author.Tests.{lt-ltb, le-ltb, leb-true}
 use Rattle.arith.specs.Choice.{if_then_else_}
-use Rattle.arith.specs.Arith.{size, signExtended}
+use Rattle.arith.specs.Arith.{size, bitmaskOf, signBitMaskOf, signExtended}
 use Rattle.arith.proofs.MaskLaws.{masked, top-pow}
 
 -- ---- the highest bit
@@ -35,31 +35,32 @@ top-set g n h f = go (decLe (2 ^ g) n)
 
 -- the same, with the width and the sign's mask as the code has them
 module _ (from n : ℕ) (pos : 0 < from) (h : n < size from) where
-  g : ℕ
-  g = min from 64 - 1
+  -- the place of the sign bit
+  top : ℕ
+  top = min from 64 - 1
 
-  is-suc : min from 64 ≡ suc g
-  unfolding g
-  is-suc = omega (arith, le-min {k = 1} {a = from} {b = 64} pos (omega arith))
+  width-is : min from 64 ≡ suc top
+  unfolding top
+  width-is = omega (arith, le-min {k = 1} {a = from} {b = 64} pos (omega arith))
 
-  fits : n < 2 ^ suc g
-  fits = subst (λ (k : ℕ). n < 2 ^ k) is-suc h
+  below : n < 2 ^ suc top
+  below = subst (λ (k : ℕ). n < 2 ^ k) width-is h
 
-  sign : 2 ^ g ≡ size from / 2
-  unfolding g
-  sign = top-pow (min from 64) (le-min {k = 1} {a = from} {b = 64} pos (omega arith))
+  mask-is : 2 ^ top ≡ signBitMaskOf from
+  unfolding top
+  mask-is = top-pow (min from 64) (le-min {k = 1} {a = from} {b = 64} pos (omega arith))
 
-  clear : bitAnd n (size from / 2) ≡ 0 → 2 * n < size from
-  clear e = subst (λ (k : ℕ). 2 * n < 2 ^ k) (sym is-suc) (top-clear g n fits (ap (bitAnd n) sign ∙ e))
+  sign-clear : bitAnd n (signBitMaskOf from) ≡ 0 → 2 * n < size from
+  sign-clear e = subst (λ (k : ℕ). 2 * n < 2 ^ k) (sym width-is) (top-clear top n below (ap (bitAnd n) mask-is ∙ e))
 
-  set : (bitAnd n (size from / 2) ≡ 0 → ⊥) → size from ≤ 2 * n
-  set f = subst (λ (k : ℕ). 2 ^ k ≤ 2 * n) (sym is-suc) (top-set g n fits (λ e. f (ap (bitAnd n) (sym sign) ∙ e)))
+  sign-set : (bitAnd n (signBitMaskOf from) ≡ 0 → ⊥) → size from ≤ 2 * n
+  sign-set f = subst (λ (k : ℕ). 2 ^ k ≤ 2 * n) (sym width-is) (top-set top n below (λ e. f (ap (bitAnd n) (sym mask-is) ∙ e)))
 
 -- ---- the bits above
 
 -- a number's bits below t do not change where those from f up are set
-turns : (f t n : ℕ) → t ≤ f → f ≤ 64 → (n + (2 ^ 64 - 2 ^ f)) % 2 ^ t ≡ n % 2 ^ t
-turns f t n h l =
+high-dropped : (f t n : ℕ) → t ≤ f → f ≤ 64 → (n + (2 ^ 64 - 2 ^ f)) % 2 ^ t ≡ n % 2 ^ t
+high-dropped f t n h l =
     ap (λ (k : ℕ). (n + k) % 2 ^ t)
     (ap (λ (k : ℕ). 2 ^ k - 2 ^ f) (sym (sub-add-cancel l)) ∙ high-ones (64 - f) f
     ∙ ap (λ (k : ℕ). (2 ^ (64 - f) - 1) * k) (ap (λ (k : ℕ). 2 ^ k) (sym (sub-add-cancel h)) ∙ pow-add 2 (f - t) t)
@@ -81,37 +82,54 @@ extended f t n l h =
 
 -- ---- the answers
 
+-- what is added to the low part: nothing, or all bits above it
+abbrev extension : Bool → ℕ → ℕ
+extension b from = if b then 0 else 2 ^ 64 - size from
+
 module _ (v from to : ℕ) where
-  -- the highest bit is clear
-  plain : 2 * (v % size from) < size from → v % size from % size to ≡ signExtended v from to
-  plain h =
-      ap (λ (n : ℕ). n % size to) (sym (add-zero (v % size from)))
-      ∙ ap (λ (b : Bool). (v % size from + (if b then 0 else 2 ^ 64 - size from)) % size to) (sym (lt-ltb _ _ h))
+  low : ℕ
+  low = v % size from
 
-  -- no more bits are asked than there are
-  any : to ≤ from → (b : Bool) → v % size from % size to ≡ (v % size from + (if b then 0 else 2 ^ 64 - size from)) % size to
-  any h true = ap (λ (n : ℕ). n % size to) (sym (add-zero (v % size from)))
-  any h false = sym (turns (min from 64) (min to 64) (v % size from) (le-min (le-trans (min-le-left to 64) h) (min-le-right to 64)) (min-le-right from 64))
+  low-lt : low < size from
+  unfolding low
+  low-lt = mod-lt v (pow-pos (min from 64))
 
-  module _ {m k : ℕ} (hm : m ≡ size from - 1) (hk : k ≡ size to - 1) where
-    twice : bitAnd (bitAnd v m) k ≡ v % size from % size to
-    twice = masked to (bitAnd v m) hk ∙ ap (λ (n : ℕ). n % size to) (masked from v hm)
+  -- by the sign bit, which is clear or set
+  by-sign : (b : Bool) → ltb (2 * low) (size from) ≡ b → (low + extension b from) % size to ≡ signExtended v from to
+  unfolding low
+  by-sign b e = ap (λ (c : Bool). (low + extension c from) % size to) (sym e)
+
+  positive : 2 * low < size from → low % size to ≡ signExtended v from to
+  positive h = ap (λ (n : ℕ). n % size to) (sym (add-zero low)) ∙ by-sign true (lt-ltb _ _ h)
+
+  -- where no more bits are asked than there are, the sign does not matter
+  truncated : to ≤ from → (b : Bool) → low % size to ≡ (low + extension b from) % size to
+  truncated h true = ap (λ (n : ℕ). n % size to) (sym (add-zero low))
+  truncated h false = sym (high-dropped (min from 64) (min to 64) low (le-min (le-trans (min-le-left to 64) h) (min-le-right to 64)) (min-le-right from 64))
+
+  module _ {m k : ℕ} (hm : m ≡ bitmaskOf from) (hk : k ≡ bitmaskOf to) where
+    low-is : bitAnd v m ≡ low
+    unfolding low
+    low-is = masked from v hm
+
+    masked-twice : bitAnd (bitAnd v m) k ≡ low % size to
+    masked-twice = masked to (bitAnd v m) hk ∙ ap (λ (n : ℕ). n % size to) low-is
 
     pub sext-zero : from ≡ 0 → bitAnd (bitAnd v m) k ≡ signExtended v from to
-    sext-zero e = twice ∙ plain (omega (arith, ap size e, mod-lt v (pow-pos (min from 64))))
+    sext-zero e = masked-twice ∙ positive (omega (arith, ap size e, low-lt))
 
-    pub sext-narrow : to ≤ from → bitAnd (bitAnd v m) k ≡ signExtended v from to
-    sext-narrow h = twice ∙ any h (ltb (2 * (v % size from)) (size from))
+    pub sext-narrow : leb to from ≡ true → bitAnd (bitAnd v m) k ≡ signExtended v from to
+    sext-narrow h = masked-twice ∙ truncated (leb-true to from h) (ltb (2 * low) (size from)) ∙ by-sign _ refl
 
-    module _ (pos : 0 < from) {s : ℕ} (hs : s ≡ size from / 2) where
-      test : bitAnd (bitAnd v m) s ≡ bitAnd (v % size from) (size from / 2)
-      test = ap₂ bitAnd (masked from v hm) hs
+    module _ (pos : from ≡ 0 → ⊥) {s : ℕ} (hs : s ≡ signBitMaskOf from) where
+      test-is : bitAnd (bitAnd v m) s ≡ bitAnd low (signBitMaskOf from)
+      test-is = ap₂ bitAnd low-is hs
 
       pub sext-clear : bitAnd (bitAnd v m) s ≡ 0 → bitAnd (bitAnd v m) k ≡ signExtended v from to
-      sext-clear e = twice ∙ plain (clear from (v % size from) pos (mod-lt v (pow-pos (min from 64))) (sym test ∙ e))
+      sext-clear e = masked-twice ∙ positive (sign-clear from low (pos-of-ne-zero pos) low-lt (sym test-is ∙ e))
 
-      pub sext-set : (bitAnd (bitAnd v m) s ≡ 0 → ⊥) → {k′ : ℕ} → k′ ≡ size to - 1 → bitAnd (bitOr (bitAnd v m) (bitAnd k ((2 ^ 64 - 1) - m))) k′ ≡ signExtended v from to
+      pub sext-set : (bitAnd (bitAnd v m) s ≡ 0 → ⊥) → {k′ : ℕ} → k′ ≡ bitmaskOf to → bitAnd (bitOr (bitAnd v m) (bitAnd k ((2 ^ 64 - 1) - m))) k′ ≡ signExtended v from to
       sext-set f hk′ =
-          (λ i. bitAnd (bitOr (masked from v hm i) (bitAnd (hk i) ((2 ^ 64 - 1) - hm i))) (hk′ i))
-          ∙ extended (min from 64) (min to 64) (v % size from) (min-le-right from 64) (mod-lt v (pow-pos (min from 64)))
-          ∙ ap (λ (b : Bool). (v % size from + (if b then 0 else 2 ^ 64 - size from)) % size to) (sym (le-ltb _ _ (set from (v % size from) pos (mod-lt v (pow-pos (min from 64))) (λ e. f (test ∙ e)))))
+          (λ i. bitAnd (bitOr (low-is i) (bitAnd (hk i) ((2 ^ 64 - 1) - hm i))) (hk′ i))
+          ∙ extended (min from 64) (min to 64) low (min-le-right from 64) low-lt
+          ∙ by-sign false (le-ltb _ _ (sign-set from low (pos-of-ne-zero pos) low-lt (λ e. f (test-is ∙ e))))

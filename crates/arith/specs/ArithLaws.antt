@@ -2,12 +2,12 @@
 -- Assumes nothing.
 use mathlib.Core.Path.{_≡_, sym, ap, _∙_}
 use Prim.Native.Nat.{ℕ, _+_, _-_, _*_, _/_, _%_, _^_, _≤_, _<_}
-use native.Mathlib.Nat.{min-eq-left, mod-eq-of-lt, sub-add-cancel, mul-add-mod-self-right, lt-of-le-of-lt}
+use native.Mathlib.Nat.{add-mod-mod, min-eq-left, mod-eq-of-lt, sub-add-cancel, mul-add-mod-self-right, lt-of-le-of-lt}
 use native.Mathlib.Omega.{arith}
 use lib.Pow.{pow-mono, not-mod, high-ones, shr-le}
-use Rattle.arith.specs.Arith.{modAdd, modMul, modNeg, modNot, modShr, lowBits}
+use Rattle.arith.specs.Arith.{modAdd, modSub, modMul, modNeg, modNot, modShr, lowBits}
 use Rattle.arith.specs.Bv.{bvadd, bvmul, bvneg, bvnot, bvlshr}
-use Rattle.arith.specs.BvLaws.{shr-is}
+use Rattle.arith.specs.BvLaws.{lshr-is}
 
 module _ (w : ℕ) (l : w ≤ 64) where
   -- a word modulo 2 ^ w
@@ -31,5 +31,9 @@ module _ (w : ℕ) (l : w ≤ 64) where
       ∙ ap (λ (k : ℕ). (k + (2 ^ w - a)) % 2 ^ w) (ap (λ (k : ℕ). 2 ^ k - 2 ^ w) (sym (sub-add-cancel l)) ∙ high-ones (64 - w) w)
       ∙ mul-add-mod-self-right (2 ^ (64 - w) - 1) (2 ^ w) (2 ^ w - a)
 
-  pub shr-word : {a : ℕ} (k : ℕ) → a < 2 ^ w → modShr a k w ≡ bvlshr w a k
-  shr-word {a} k h = low-is (a / 2 ^ k) ∙ mod-eq-of-lt (lt-of-le-of-lt (shr-le a k) h) ∙ sym (shr-is w k h)
+  -- QF_BV has bvsub as the sum with the two's complement
+  pub sub-is : (a : ℕ) {b : ℕ} → b < 2 ^ w → modSub a b w ≡ bvadd w a (bvneg w b)
+  sub-is a {b} h = low-is (a + (2 ^ 64 - b)) ∙ sym (add-mod-mod a (2 ^ 64 - b) (2 ^ w)) ∙ ap (λ (n : ℕ). (a + n) % 2 ^ w) (sym (low-is (2 ^ 64 - b)) ∙ neg-is h)
+
+  pub shr-is : {a : ℕ} (k : ℕ) → a < 2 ^ w → modShr a k w ≡ bvlshr w a k
+  shr-is {a} k h = low-is (a / 2 ^ k) ∙ mod-eq-of-lt (lt-of-le-of-lt (shr-le a k) h) ∙ sym (lshr-is w k h)

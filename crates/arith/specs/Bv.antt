@@ -1,5 +1,5 @@
--- SMT-LIB's theory FixedSizeBitVectors: its operations on vectors of w bits. A vector stands for the number that the theory's
--- bv2nat gives it, which is below 2 ^ w. Definitions only.
+-- SMT-LIB's bit vectors of w bits: the operations of the theory FixedSizeBitVectors, and bvxor of the logic QF_BV. A vector stands for
+-- the number that the theory's bv2nat gives it, which is below 2 ^ w. Definitions only.
 use Prim.Native.Nat.{ℕ, _+_, _-_, _*_, _/_, _%_, _^_}
 use lib.Bits.{bitAnd, bitOr, bitXor}
 use lib.Dec.{ltb}
@@ -40,3 +40,7 @@ bvxor x y = bitXor x y
 -- the logical shift right by k places; k is a plain number and no vector, and from w up nothing is left
 abbrev pub bvlshr : ℕ → ℕ → ℕ → ℕ
 bvlshr w x k = if ltb k w then x / 2 ^ k else 0
+
+-- bit i of a vector, the lowest being bit 0; the laws that go bit by bit are stated with it
+abbrev pub bit : ℕ → ℕ → ℕ
+bit i x = x / 2 ^ i % 2

@@ -1,5 +1,6 @@
--- The laws of the operations of `Bv` that rewriting rests on, each at every width w, for x, y and z below 2 ^ w. A law of bits is
--- stated in one order of its operands; `and-swap`, `or-swap` and `xor-swap` give the others. Assumes nothing.
+-- The laws of the operations of `Bv` that rewriting rests on, each at every width w, for x, y and z below 2 ^ w. A law is stated in
+-- one order of its operands. The kit's `lib.Bits` has those that need no width: `and-comm`, `or-comm`, `xor-comm`, `and-self`, `or-self`,
+-- `and-zero-r`, `or-zero-r`, `xor-zero-r`. Assumes nothing.
 use mathlib.Core.Path.{_≡_, sym, ap, _∙_}
 use Prim.Native.Nat.{ℕ, suc, _+_, _-_, _*_, _/_, _%_, _^_, _≤_, _<_, min, max}
 use native.Mathlib.Nat.{mod-lt, div-one, div-eq-of-lt, lt-of-lt-of-le, pow-suc, zero-div}
@@ -8,7 +9,7 @@ use native.Mathlib.Omega.{arith}
 use lib.Pow.{pow-pos, pow-mono, ones-split, ones-lt, high}
 use lib.Bits.{and-mod, or-mod, xor-mod, and-shr, or-shr, and-step, or-step}
 use borrow.Author.Tests.{lt-ltb, le-ltb}
-use Rattle.arith.specs.Bv.{ones, bvand, bvor, bvxor, bvnot, bvlshr}
+use Rattle.arith.specs.Bv.{ones, bvand, bvor, bvxor, bvnot, bvlshr, bit}
 use Rattle.arith.specs.TableLaws.{X, Y, Z, none, all, not, and, or, xor, same₁, same₂, same₃}
 
 -- ---- one number
@@ -17,26 +18,11 @@ module _ (w : ℕ) {x : ℕ} (hx : x < 2 ^ w) where
   pub not-not : bvnot w (bvnot w x) ≡ x
   not-not = same₁ (not (not X)) X tt w hx
 
-  pub and-same : bvand x x ≡ x
-  and-same = same₁ (and X X) X tt w hx
-
-  pub or-same : bvor x x ≡ x
-  or-same = same₁ (or X X) X tt w hx
-
-  pub and-none : bvand x 0 ≡ 0
-  and-none = same₁ (and X none) none tt w hx
-
   pub and-all : bvand x (ones w) ≡ x
   and-all = same₁ (and X all) X tt w hx
 
-  pub or-none : bvor x 0 ≡ x
-  or-none = same₁ (or X none) X tt w hx
-
   pub or-all : bvor x (ones w) ≡ ones w
   or-all = same₁ (or X all) all tt w hx
-
-  pub xor-none : bvxor x 0 ≡ x
-  xor-none = same₁ (xor X none) X tt w hx
 
   pub and-not : bvand x (bvnot w x) ≡ 0
   and-not = same₁ (and X (not X)) none tt w hx
@@ -50,15 +36,6 @@ module _ (w : ℕ) {x : ℕ} (hx : x < 2 ^ w) where
 -- ---- two numbers
 
 module _ (w : ℕ) {x y : ℕ} (hx : x < 2 ^ w) (hy : y < 2 ^ w) where
-  pub and-swap : bvand x y ≡ bvand y x
-  and-swap = same₂ (and X Y) (and Y X) tt w hx hy
-
-  pub or-swap : bvor x y ≡ bvor y x
-  or-swap = same₂ (or X Y) (or Y X) tt w hx hy
-
-  pub xor-swap : bvxor x y ≡ bvxor y x
-  xor-swap = same₂ (xor X Y) (xor Y X) tt w hx hy
-
   pub de-morgan-and : bvnot w (bvand x y) ≡ bvor (bvnot w x) (bvnot w y)
   de-morgan-and = same₂ (not (and X Y)) (or (not X) (not Y)) tt w hx hy
 
@@ -107,25 +84,21 @@ module _ (w : ℕ) {x : ℕ} (c d : ℕ) (hx : x < 2 ^ w) where
 
 -- ---- shifts
 
--- below w or not, a shift of a number of w bits is a quotient
-pub shr-is : (w k : ℕ) {x : ℕ} → x < 2 ^ w → bvlshr w x k ≡ x / 2 ^ k
-shr-is w k {x} hx = go (decLe w k)
+-- below w and from w up, a shift of a number of w bits is a quotient
+pub lshr-is : (w k : ℕ) {x : ℕ} → x < 2 ^ w → bvlshr w x k ≡ x / 2 ^ k
+lshr-is w k {x} hx = go (decLe w k)
   where
     go : Dec (w ≤ k) → bvlshr w x k ≡ x / 2 ^ k
     go (yes p) = simp (le-ltb k w p) (sym (div-eq-of-lt (lt-of-lt-of-le hx (pow-mono p))))
     go (no q) = simp (lt-ltb k w (omega arith))
 
-pub shr-none : (w : ℕ) {x : ℕ} → x < 2 ^ w → bvlshr w x 0 ≡ x
-shr-none w {x} hx = shr-is w 0 hx ∙ div-one x
+pub lshr-none : (w : ℕ) {x : ℕ} → x < 2 ^ w → bvlshr w x 0 ≡ x
+lshr-none w {x} hx = lshr-is w 0 hx ∙ div-one x
 
-pub shr-past : (w k : ℕ) (x : ℕ) → w ≤ k → bvlshr w x k ≡ 0
-shr-past w k x h = simp (le-ltb k w h)
+pub lshr-past : (w k x : ℕ) → w ≤ k → bvlshr w x k ≡ 0
+lshr-past w k x h = simp (le-ltb k w h)
 
--- ---- the theory's own wording: bit i of the answer from bit i of the operands
-
--- bit i of a number, the lowest being bit 0
-abbrev pub bit : ℕ → ℕ → ℕ
-bit i x = x / 2 ^ i % 2
+-- ---- SMT-LIB's own wording: bit i of the answer from bit i of the operands
 
 -- the last digit of a number that is made of its other digits and one digit
 last : {n : ℕ} (a b : ℕ) → n ≡ a * 2 + b → b < 2 → n % 2 ≡ b
@@ -136,10 +109,6 @@ and-bit i x y = last _ _ (and-shr x y i ∙ and-step (x / 2 ^ i) (y / 2 ^ i)) (o
 
 pub or-bit : (i x y : ℕ) → bit i (bvor x y) ≡ max (bit i x) (bit i y)
 or-bit i x y = last _ _ (or-shr x y i ∙ or-step (x / 2 ^ i) (y / 2 ^ i)) (omega arith)
-
--- bvxor by the other operations, as the theory has it
-pub xor-is : (w : ℕ) {x y : ℕ} → x < 2 ^ w → y < 2 ^ w → bvxor x y ≡ bvor (bvand x (bvnot w y)) (bvand (bvnot w x) y)
-xor-is w hx hy = same₂ (xor X Y) (or (and X (not Y)) (and (not X) Y)) tt w hx hy
 
 -- every bit of `ones` is set
 ones-bit : (w i : ℕ) → i < w → bit i (ones w) ≡ 1
@@ -155,3 +124,7 @@ not-bit w i {x} hx hi =
     let both : min (bit i x) (bit i (bvnot w x)) ≡ 0 = sym (and-bit i x (bvnot w x)) ∙ ap (bit i) (and-not w hx) ∙ ap (λ (n : ℕ). n % 2) (zero-div (2 ^ i)) in
     let either : max (bit i x) (bit i (bvnot w x)) ≡ 1 = sym (or-bit i x (bvnot w x)) ∙ ap (bit i) (or-not w hx) ∙ ones-bit w i hi in
     omega arith
+
+-- QF_BV has bvxor by the other operations
+pub xor-is : (w : ℕ) {x y : ℕ} → x < 2 ^ w → y < 2 ^ w → bvxor x y ≡ bvor (bvand x (bvnot w y)) (bvand (bvnot w x) y)
+xor-is w hx hy = same₂ (xor X Y) (or (and X (not Y)) (and (not X) Y)) tt w hx hy

@@ -90,20 +90,20 @@ module _ (w : ℕ) where
 -- ---- the identities
 
 module _ (w : ℕ) {x y : ℕ} (hx : x < 2 ^ w) (hy : y < 2 ^ w) where
-  hand : bvand x y < 2 ^ w
-  hand = and-lt w x y hx hy
+  and-below : bvand x y < 2 ^ w
+  and-below = and-lt w x y hx hy
 
-  hor : bvor x y < 2 ^ w
-  hor = or-lt w x y hx hy
+  or-below : bvor x y < 2 ^ w
+  or-below = or-lt w x y hx hy
 
-  hxor : bvxor x y < 2 ^ w
-  hxor = xor-lt w x y hx hy
+  xor-below : bvxor x y < 2 ^ w
+  xor-below = xor-lt w x y hx hy
 
-  hnot : bvnot w x < 2 ^ w
-  hnot = ones-sub-lt w x
+  not-below : bvnot w x < 2 ^ w
+  not-below = ones-sub-lt w x
 
-  horn : bvor (bvnot w x) y < 2 ^ w
-  horn = or-lt w (bvnot w x) y hnot hy
+  ornot-below : bvor (bvnot w x) y < 2 ^ w
+  ornot-below = or-lt w (bvnot w x) y not-below hy
 
   -- over the natural numbers
   or-is : bvor x y ≡ bvand x y + bvxor x y
@@ -120,22 +120,22 @@ module _ (w : ℕ) {x y : ℕ} (hx : x < 2 ^ w) (hy : y < 2 ^ w) where
 
   -- `(x | y) - (x & y)` is `x ^ y`, and the other way round its negation
   pub or-minus-and : bvadd w (bvor x y) (bvneg w (bvand x y)) ≡ bvxor x y
-  or-minus-and = diff-value w (diff-add w (diff-plain w hor) (diff-neg w (diff-plain w hand))) hxor 0 0 (omega (arith, or-is))
+  or-minus-and = diff-value w (diff-add w (diff-plain w or-below) (diff-neg w (diff-plain w and-below))) xor-below 0 0 (omega (arith, or-is))
 
   pub and-minus-or : bvadd w (bvand x y) (bvneg w (bvor x y)) ≡ bvneg w (bvxor x y)
-  and-minus-or = diff-unique w (diff-add w (diff-plain w hand) (diff-neg w (diff-plain w hor))) (diff-neg w (diff-plain w hxor)) 0 0 (omega (arith, or-is))
+  and-minus-or = diff-unique w (diff-add w (diff-plain w and-below) (diff-neg w (diff-plain w or-below))) (diff-neg w (diff-plain w xor-below)) 0 0 (omega (arith, or-is))
 
   -- `(!x | y) - !x` is `x & y`
   pub ornot-minus-not : bvadd w (bvor (bvnot w x) y) (bvneg w (bvnot w x)) ≡ bvand x y
-  ornot-minus-not = diff-value w (diff-add w (diff-plain w horn) (diff-neg w (diff-plain w hnot))) hand 0 0 (omega (arith, ornot-is))
+  ornot-minus-not = diff-value w (diff-add w (diff-plain w ornot-below) (diff-neg w (diff-plain w not-below))) and-below 0 0 (omega (arith, ornot-is))
 
   pub not-minus-ornot : bvadd w (bvnot w x) (bvneg w (bvor (bvnot w x) y)) ≡ bvneg w (bvand x y)
-  not-minus-ornot = diff-unique w (diff-add w (diff-plain w hnot) (diff-neg w (diff-plain w horn))) (diff-neg w (diff-plain w hand)) 0 0 (omega (arith, ornot-is))
+  not-minus-ornot = diff-unique w (diff-add w (diff-plain w not-below) (diff-neg w (diff-plain w ornot-below))) (diff-neg w (diff-plain w and-below)) 0 0 (omega (arith, ornot-is))
 
   -- three addends that come to `(!x | y) + x + 1`, in any order
   pub plus-one : {v p n : ℕ} → Diff w v p n → p ≡ bvor (bvnot w x) y + x + 1 + n → v ≡ bvand x y
-  plus-one d e = diff-value w d hand 0 1 (omega (arith, ornot-plus, e, pow-pos w))
+  plus-one d e = diff-value w d and-below 0 1 (omega (arith, ornot-plus, e, pow-pos w))
 
   -- four addends that come to `x - y - 2 * (x | !y) - 2`, in any order
   pub flat-or-not : {v p n : ℕ} → Diff w v p n → p + y + 2 * bvor x (bvnot w y) + 2 ≡ x + n → v ≡ bvxor x y
-  flat-or-not {v} {p} {n} d e = diff-value w d hxor 2 0 (omega (arith, flat-is, e, pow-pos w))
+  flat-or-not {v} {p} {n} d e = diff-value w d xor-below 2 0 (omega (arith, flat-is, e, pow-pos w))

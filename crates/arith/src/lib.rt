@@ -78,14 +78,16 @@ pub fn mod_shr(a: u64, k: u64, bitwidth: u32) -> u64
     if k >= 64 {
         return 0;
     }
-    (a >> k) & bitmask(bitwidth)
+    let mask = bitmask(bitwidth);
+    (a >> k) & mask
 }
 
 // Zero extension to `to` bits.
 pub fn zext(v: u64, to: u32) -> u64
     ensures { λ r. ⌜ r ≡ lowBits v to ⌝ }
 {
-    v & bitmask(to) // it sets no bit
+    let mask = bitmask(to);
+    v & mask
 }
 
 // Sign extension from `from` to `to` bits; where `to` is no wider it truncates, and from width 0 it is 0.
@@ -110,5 +112,5 @@ pub fn sext(v: u64, from: u32, to: u32) -> u64
 pub fn trunc(v: u64, to: u32) -> u64
     ensures { λ r. ⌜ r ≡ lowBits v to ⌝ }
 {
-    v & bitmask(to) // the rest is cut off
+    v & bitmask(to)
 }
