@@ -188,6 +188,10 @@ def some_tree(rng, nodes):
     return with_one_variable(rng, nodes) if choice < 7 else random_tree(rng, nodes, any_leaf)
 
 
+def arities():
+    return [request("arity_of", [kind]) for kind in list(range(21)) + BAD_KINDS + [BIG + 13]]
+
+
 def valid_trees(rng):
     lines = []
     for kind in LEAVES + BINARY + UNARY:
@@ -463,7 +467,7 @@ def equal_lists(rng):
 def requests():
     # a seed for each part, so that a change to one leaves the others
     return (masks() + one_value(Random(1)) + two_values(Random(2)) + shifts(Random(3)) + sign_extensions(Random(4))
-            + valid_trees(Random(5))
+            + arities() + valid_trees(Random(5))
             + few_words() + many_words(Random(6)) + depths() + operands() + kinds()
             + words_that_end(Random(7)) + words_left_over(Random(8)) + two_refusals()
             + damaged_trees(Random(9)) + rubbish(Random(10))

@@ -11,11 +11,12 @@ pub fn answer(request: &str) -> Result<String, String> {
         return same_words(&fields);
     }
     let numbers = numbers(&fields)?;
-    match name {
-        "check_tree" => Ok(of_tree(&numbers, node_count)),
-        "is_constant_subtree" => Ok(of_tree(&numbers, |e| u64::from(expr_utils::is_constant_subtree(e)))),
-        "has_var_dep" => Ok(of_tree(&numbers, |e| u64::from(expr_utils::has_var_dep(e)))),
-        "span" => Ok(text(words::span(&numbers).map(|n| n as u64))),
+    match (name, &numbers[..]) {
+        ("arity_of", &[kind]) => Ok(text(words::arity(kind).map(|n| n as u64))),
+        ("check_tree", words) => Ok(of_tree(words, node_count)),
+        ("is_constant_subtree", words) => Ok(of_tree(words, |e| u64::from(expr_utils::is_constant_subtree(e)))),
+        ("has_var_dep", words) => Ok(of_tree(words, |e| u64::from(expr_utils::has_var_dep(e)))),
+        ("span", words) => Ok(text(words::span(words).map(|n| n as u64))),
         _ => arithmetic(name, &numbers).map(hex),
     }
 }

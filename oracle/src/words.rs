@@ -6,6 +6,7 @@ use std::sync::Arc;
 const MAX_WORDS: usize = 1024;
 const MAX_DEPTH: usize = 64;
 const MAX_U32: u64 = u32::MAX as u64;
+const LAST_KIND: u64 = 13;
 
 /// The number of a refusal.
 pub type Refusal = u32;
@@ -22,16 +23,25 @@ pub fn read(words: &[u64]) -> Result<Arc<Expr>, Refusal> {
 /// The number of words that the first subtree takes, or the first refusal of 2, then 6, 3 at each node.
 pub fn span(words: &[u64]) -> Result<usize, Refusal> {
     check_length(words)?;
-    let mut due = 1;
-    let mut at = 0;
-    while due > 0 {
-        if at == words.len() {
-            return Err(6);
-        }
-        due = due - 1 + children(words[at]).ok_or(3u32)?;
-        at += 2;
+    words_taken(words)
+}
+
+/// A subtree takes two words and what its children take.
+fn words_taken(words: &[u64]) -> Result<usize, Refusal> {
+    let kind = *words.first().ok_or(6u32)?;
+    let mut taken = 2;
+    for _ in 0..arity(kind)? {
+        taken += words_taken(&words[taken..])?;
     }
-    Ok(at)
+    Ok(taken)
+}
+
+/// The number of children of a kind word, which the original tells, or refusal 3.
+pub fn arity(kind: u64) -> Result<usize, Refusal> {
+    if kind > LAST_KIND {
+        return Err(3);
+    }
+    Ok(kind_of(kind, 0).arity())
 }
 
 fn check_length(words: &[u64]) -> Result<(), Refusal> {
@@ -46,7 +56,7 @@ fn check_nodes(words: &[u64]) -> Result<(), Refusal> {
     let mut due = vec![1]; // depths of the nodes still due, the next one last
     while let Some(depth) = due.pop() {
         let node = nodes.next().ok_or(6u32)?;
-        let children = children(node[0]).ok_or(3u32)?;
+        let children = arity(node[0])?;
         if !operand_fits(node[0], node[1]) {
             return Err(4);
         }
@@ -58,15 +68,6 @@ fn check_nodes(words: &[u64]) -> Result<(), Refusal> {
     match nodes.next() {
         None => Ok(()),
         Some(_) => Err(7),
-    }
-}
-
-fn children(kind: u64) -> Option<usize> {
-    match kind {
-        0 | 1 => Some(0),
-        7..=12 => Some(1),
-        2..=6 | 13 => Some(2),
-        _ => None,
     }
 }
 

@@ -48,12 +48,12 @@ stopped d (k ∷ []) h e = absurd (omega arith)
 stopped zero (k ∷ o ∷ r) h e = then-refused e _
 stopped (suc d) (k ∷ o ∷ r) h e = then-refused e _
 
-gone-on : (d : ℕ) (ws : List ℕ) {κ : Kind} → 2 ≤ length ws → kindHere d ws ≡ accepted κ → subtree d ws ≡ children (subtree (d - 1)) κ (tail 2 ws)
+read-on : (d : ℕ) (ws : List ℕ) {κ : Kind} → 2 ≤ length ws → kindHere d ws ≡ accepted κ → subtree d ws ≡ children (subtree (d - 1)) κ (tail 2 ws)
 unfolding subtree node
-gone-on d [] h e = absurd (omega arith)
-gone-on d (k ∷ []) h e = absurd (omega arith)
-gone-on zero (k ∷ o ∷ r) h e = absurd (omega (arith, node-read zero k o e .level))
-gone-on (suc d) (k ∷ o ∷ r) {κ} h e =
+read-on d [] h e = absurd (omega arith)
+read-on d (k ∷ []) h e = absurd (omega arith)
+read-on zero (k ∷ o ∷ r) h e = absurd (omega (arith, node-read zero k o e .level))
+read-on (suc d) (k ∷ o ∷ r) {κ} h e =
     then-accepted e _
     ∙ ap (λ (n : ℕ). children (subtree n) κ r) (let s : d ≡ suc d - 1 = omega arith in s)
     ∙ ap (children (subtree (suc d - 1)) κ) (sym (tail-drop 2 (k ∷ o ∷ r)))
@@ -113,8 +113,8 @@ module _ (d n : ℕ) (ws : List ℕ) (x : Counted) (e : countedOutcome x ≡ map
   pub found-fits : 2 * n ≤ length ws
   found-fits = omega (arith, rest-length)
 
-  rest-is : found .answer .1 ≡ tail (2 * n) ws
-  rest-is = sym (tail-drop (2 * n) ws ∙ ap (drop (2 * n)) (begins .words) ∙ drop-at (encode (found .answer .0)) (found .answer .1) (2 * n) words)
+  rest-tail : found .answer .1 ≡ tail (2 * n) ws
+  rest-tail = sym (tail-drop (2 * n) ws ∙ ap (drop (2 * n)) (begins .words) ∙ drop-at (encode (found .answer .0)) (found .answer .1) (2 * n) words)
 
 -- ---- the answers of `check_at`
 
@@ -138,8 +138,8 @@ module _ (d : ℕ) (ws : List ℕ) where
       has-level : 1 ≤ d
       has-level = node-read d (getD ws 0 0) (getD ws 1 0) (kind .was) .level
 
-      over : (x : Outcome ℕ) → x ≡ mapped count (children (subtree (d - 1)) (kind .answer) (tail 2 ws)) → x ≡ mapped count (subtree d ws)
-      over x g = g ∙ sym (ap (mapped count) (gone-on d ws h (kind .was)))
+      of-node : (x : Outcome ℕ) → x ≡ mapped count (children (subtree (d - 1)) (kind .answer) (tail 2 ws)) → x ≡ mapped count (subtree d ws)
+      of-node x g = g ∙ sym (ap (mapped count) (read-on d ws h (kind .was)))
 
     pub one-level : a ≡ arity.One → 1 ≤ d
     one-level f = has-level 1 (ap arityOutcome (sym f))
@@ -148,13 +148,13 @@ module _ (d : ℕ) (ws : List ℕ) where
     two-level f = has-level 2 (ap arityOutcome (sym f))
 
     pub leaf-case : a ≡ arity.Zero → accepted 1 ≡ mapped count (subtree d ws)
-    leaf-case f = let g = ap arityOutcome (sym f) in over 0 g (accepted 1) (leaf-count (subtree (d - 1)) (tail 2 ws) (kind 0 g .answer) (kind 0 g .made))
+    leaf-case f = let g = ap arityOutcome (sym f) in of-node 0 g (accepted 1) (leaf-count (subtree (d - 1)) (tail 2 ws) (kind 0 g .answer) (kind 0 g .made))
 
     module _ (x : Counted) (i : countedOutcome x ≡ mapped count (subtree (d - 1) (tail 2 ws))) where
       one-over : (f : a ≡ arity.One) → mapped (λ n. n + 1) (countedOutcome x) ≡ mapped count (subtree d ws)
       one-over f =
           let g = ap arityOutcome (sym f) in
-          over 1 g _ (ap (mapped (λ n. n + 1)) i ∙ one-count (subtree (d - 1)) (tail 2 ws) (kind 1 g .answer) (kind 1 g .made))
+          of-node 1 g _ (ap (mapped (λ n. n + 1)) i ∙ one-count (subtree (d - 1)) (tail 2 ws) (kind 1 g .answer) (kind 1 g .made))
 
       pub one-refused : (r : Refusal) → a ≡ arity.One → x ≡ Refused r → refused (reasonOf r) ≡ mapped count (subtree d ws)
       one-refused r f j = ap (λ (y : Counted). mapped (λ n. n + 1) (countedOutcome y)) (sym j) ∙ one-over f
@@ -165,15 +165,15 @@ module _ (d : ℕ) (ws : List ℕ) where
       pub left-refused : (r : Refusal) → a ≡ arity.Two → x ≡ Refused r → refused (reasonOf r) ≡ mapped count (subtree d ws)
       left-refused r f j =
           let g = ap arityOutcome (sym f) in
-          over 2 g _ (left-stops (subtree (d - 1)) (tail 2 ws) (kind 2 g .answer) (kind 2 g .made) (ap countedOutcome (sym j) ∙ i))
+          of-node 2 g _ (left-stops (subtree (d - 1)) (tail 2 ws) (kind 2 g .answer) (kind 2 g .made) (ap countedOutcome (sym j) ∙ i))
 
       module _ (n : ℕ) (f : a ≡ arity.Two) (j : x ≡ Count n) (y : Counted) (k : countedOutcome y ≡ mapped count (subtree (d - 1) (tail (2 * n) (tail 2 ws)))) where
         two-over : mapped (λ m. n + m + 1) (countedOutcome y) ≡ mapped count (subtree d ws)
         two-over =
             let g = ap arityOutcome (sym f) in
             let l = found (d - 1) n (tail 2 ws) x i j in
-            over 2 g _
-            (ap (mapped (λ m. n + m + 1)) (k ∙ ap (λ (s : List ℕ). mapped count (subtree (d - 1) s)) (sym (rest-is (d - 1) n (tail 2 ws) x i j)))
+            of-node 2 g _
+            (ap (mapped (λ m. n + m + 1)) (k ∙ ap (λ (s : List ℕ). mapped count (subtree (d - 1) s)) (sym (rest-tail (d - 1) n (tail 2 ws) x i j)))
             ∙ ap (λ (o : ℕ). mapped (λ m. o + m + 1) (mapped count (subtree (d - 1) (l .answer .1)))) (sym (l .made))
             ∙ two-count (subtree (d - 1)) (tail 2 ws) (kind 2 g .answer) (l .answer .0) (l .answer .1) (kind 2 g .made) (l .was))
 
@@ -185,8 +185,8 @@ module _ (d : ℕ) (ws : List ℕ) where
 
 -- ---- the sums fit
 
-pub lower : (d t : ℕ) → 1 ≤ d → d ≡ t → d - 1 < t
-lower d t h e = omega arith
+pub level-falls : (d t : ℕ) → 1 ≤ d → d ≡ t → d - 1 < t
+level-falls d t h e = omega arith
 
 module _ (d n : ℕ) (ws : List ℕ) (x : Counted) (e : countedOutcome x ≡ mapped count (subtree d (tail 2 ws))) (f : x ≡ Count n) where
   pub right-within : 2 * n ≤ length (tail 2 ws)

@@ -1,6 +1,6 @@
 -- A tree has a Variable exactly if one of its kind words is 1; the turns of `has_variable`. Assumes nothing.
 use mathlib.Core.Path.{_≡_, refl, sym, ap, ap₂, _∙_}
-use mathlib.Core.Bool.{Bool, true, false, not, _&&_, _||_}
+use mathlib.Core.Bool.{Bool, true, false, not, _&&_, _||_, or-assoc, or-false}
 use mathlib.Core.List.{List, [], _∷_, _++_, append-assoc, append-nil}
 use Prim.Native.Nat.{ℕ, zero, suc, _+_, _≤_, _<_}
 use native.Mathlib.Omega.{arith}
@@ -15,14 +15,6 @@ abbrev anyVariable : List ℕ → Bool
 anyVariable [] = false
 anyVariable (k ∷ []) = eqb k 1
 anyVariable (k ∷ o ∷ ws) = eqb k 1 || anyVariable ws
-
-or-assoc : (a b c : Bool) → ((a || b) || c) ≡ (a || (b || c))
-or-assoc true b c = refl
-or-assoc false b c = refl
-
-or-false : (b : Bool) → (b || false) ≡ b
-or-false true = refl
-or-false false = refl
 
 unary-none : (k : Unary) → eqb (unaryNumber k) 1 ≡ false
 unary-none Not = refl

@@ -2,14 +2,16 @@
 use mathlib.Core.List.{List, [], _∷_, _++_}
 use Prim.Native.Nat.{ℕ, _+_, max}
 
--- the kinds without children, with one child and with two; a kind that carries a number holds it, as in the Rust
+-- the kinds without children; as in the Rust, a kind that carries a number holds it
 pub data Leaf : Type 0 where
   Constant Variable : ℕ → Leaf
 
+-- the kinds with one child; Shr holds the shift, the others the width
 pub data Unary : Type 0 where
   Not Neg : Unary
   Shr ZExt SExt Trunc : ℕ → Unary
 
+-- the kinds with two children
 pub data Binary : Type 0 where
   Add Mul And Or Xor Concat : Binary
 
@@ -21,11 +23,12 @@ pub data Expr : Type 0 where
 
 -- ---- words
 
--- document 01's number of each kind
+-- document 01's number of a kind: leaves
 abbrev pub leafNumber : Leaf → ℕ
 leafNumber (Constant c) = 0
 leafNumber (Variable i) = 1
 
+-- kinds with two children
 abbrev pub binaryNumber : Binary → ℕ
 binaryNumber Add = 2
 binaryNumber Mul = 3
@@ -34,6 +37,7 @@ binaryNumber Or = 5
 binaryNumber Xor = 6
 binaryNumber Concat = 13
 
+-- kinds with one child
 abbrev pub unaryNumber : Unary → ℕ
 unaryNumber Not = 7
 unaryNumber Neg = 8
@@ -42,11 +46,12 @@ unaryNumber (ZExt w) = 10
 unaryNumber (SExt w) = 11
 unaryNumber (Trunc w) = 12
 
--- the operand word: the number that the kind holds, 0 where it holds none
+-- the operand word is the number that the kind holds, 0 where it holds none: leaves
 abbrev pub leafOperand : Leaf → ℕ
 leafOperand (Constant c) = c
 leafOperand (Variable i) = i
 
+-- kinds with one child; a kind with two holds none
 abbrev pub unaryOperand : Unary → ℕ
 unaryOperand Not = 0
 unaryOperand Neg = 0

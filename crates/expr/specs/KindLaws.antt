@@ -94,49 +94,31 @@ module _ (o k : ℕ) (κ : Kind) (e : k ≡ number κ) where
   bare : 0 ≡ operand κ → (T (operandOk k o) → T (eqb o 0)) → Reads o k κ
   bare f g = record { number-is = e; operand-is = λ t. eqb→eq o 0 (g t) ∙ f }
 
+infixr 1 _next_
+-- a row of the table and the rows after it
+_next_ : {A B : Type 0} → A → B → A × B
+_next_ a b = (a, b)
+
 pub kind-reads : (o k : ℕ) {κ : Kind} → kindAt k (kinds o) ≡ accepted κ → Reads o k κ
 unfolding operandOk
 kind-reads o k e =
-    at-each (Reads o) (kinds o) k (
-      held o 0 _ refl refl,
-      (
-        held o 1 _ refl refl,
-        (
-          bare o 2 _ refl refl (λ t. t),
-          (
-            bare o 3 _ refl refl (λ t. t),
-            (
-              bare o 4 _ refl refl (λ t. t),
-              (
-                bare o 5 _ refl refl (λ t. t),
-                (
-                  bare o 6 _ refl refl (λ t. t),
-                  (
-                    bare o 7 _ refl refl (λ t. t),
-                    (
-                      bare o 8 _ refl refl (λ t. t),
-                      (
-                        held o 9 _ refl refl,
-                        (
-                          held o 10 _ refl refl,
-                          (
-                            held o 11 _ refl refl,
-                            (
-                              held o 12 _ refl refl,
-                              (bare o 13 _ refl refl (λ t. t), tt),
-                            ),
-                          ),
-                        ),
-                      ),
-                    ),
-                  ),
-                ),
-              ),
-            ),
-          ),
-        ),
-      ),
-    ) e
+    at-each (Reads o) (kinds o) k
+    (held o 0 _ refl refl
+    next held o 1 _ refl refl
+    next bare o 2 _ refl refl (λ t. t)
+    next bare o 3 _ refl refl (λ t. t)
+    next bare o 4 _ refl refl (λ t. t)
+    next bare o 5 _ refl refl (λ t. t)
+    next bare o 6 _ refl refl (λ t. t)
+    next bare o 7 _ refl refl (λ t. t)
+    next bare o 8 _ refl refl (λ t. t)
+    next held o 9 _ refl refl
+    next held o 10 _ refl refl
+    next held o 11 _ refl refl
+    next held o 12 _ refl refl
+    next bare o 13 _ refl refl (λ t. t)
+    next tt)
+    e
 
 -- past the list there is no kind, and no number of children
 at-past : (κs : List Kind) (k : ℕ) {r : Reason} → kindAt k κs ≡ refused r → (length κs ≤ k) × (refusal 3 ≡ r)

@@ -1,4 +1,5 @@
 -- Reading words: the refusals 2, 6, 3, 4, 5 and 7 in document 01's order. Definitions only.
+use mathlib.Core.Path.{_≡_}
 use mathlib.Core.Bool.{Bool, true, not, _&&_, _||_}
 use mathlib.Core.List.{List, [], _∷_}
 use Prim.Native.Nat.{ℕ, zero, suc, _%_, _≤_}
@@ -7,14 +8,15 @@ use lib.ListN.{length}
 use Rattle.arith.specs.Choice.{if_then_else_}
 use Rattle.expr.specs.Refusals.{refusal}
 use Rattle.expr.specs.Outcome.{Outcome, refused, accepted, _andThen_}
-use Rattle.expr.specs.Expr.{Leaf, Constant, Variable, Unary, Not, Neg, Shr, ZExt, SExt, Trunc, Binary, Add, Mul, And, Or, Xor, Concat, Expr, leaf, unary, binary, leafNumber, leafOperand, unaryNumber, unaryOperand, nodes, depth}
+use Rattle.expr.specs.Expr.{Leaf, Constant, Variable, Unary, Not, Neg, Shr, ZExt, SExt, Trunc, Binary, Add, Mul, And, Or, Xor, Concat, Expr, leaf, unary, binary, leafNumber, leafOperand, unaryNumber, unaryOperand, encode, nodes, depth}
 
--- a kind, by its number of children
+-- a kind, by its number of children: the Rust's `Kind`
 pub data Kind : Type 0 where
   none : Leaf → Kind
   one : Unary → Kind
   two : Binary → Kind
 
+-- that number: the Rust's `Kind::arity`
 abbrev pub arity : Kind → ℕ
 arity (none k) = 0
 arity (one k) = 1
@@ -64,13 +66,14 @@ children next (none k) ws = accepted (leaf k, ws)
 children next (one k) ws = next ws andThen (λ p. accepted (unary k (p .0), p .1))
 children next (two k) ws = next ws andThen (λ p. next (p .1) andThen (λ q. accepted (binary k (p .0) (q .0), q .1)))
 
--- the subtree that the words begin with and the words after it; 6 where the words end before a node is whole
+-- a node with so many levels left, its children read by `next`, and the words after it; 6 where the words end before the node is whole
 unfoldable pub node : ℕ → (List ℕ → Outcome (Expr × List ℕ)) → List ℕ → Outcome (Expr × List ℕ)
 node levels next [] = refused (refusal 6)
 node levels next (k ∷ []) = refused (refusal 6)
 node levels next (k ∷ o ∷ ws) = nodeKind levels k o andThen (λ κ. children next κ ws)
 
--- the same, of at most so many levels
+-- the subtree that the words begin with, of at most so many levels; with none left the node itself is refused, so that nothing below it
+-- is read
 unfoldable pub subtree : ℕ → List ℕ → Outcome (Expr × List ℕ)
 subtree zero = node zero (λ ws. refused (refusal 5))
 subtree (suc levels) = node (suc levels) (subtree levels)
@@ -96,8 +99,13 @@ operandsOk (leaf k) = operandOk (leafNumber k) (leafOperand k)
 operandsOk (unary k t) = operandOk (unaryNumber k) (unaryOperand k) && operandsOk t
 operandsOk (binary k l r) = operandsOk l && operandsOk r
 
--- a tree within document 01's limits
+-- a tree within document 01's limits; that a word has 64 bits is the code's limit, and no list that it is lent can break it
 pub record Valid (t : Expr) : Type 0 where
   pub count : nodes t ≤ 512
   pub levels : depth t ≤ 64
   pub operands : T (operandsOk t)
+
+-- the words are those of the tree, and the tree is valid
+pub record Accepts (ws : List ℕ) (t : Expr) : Type 0 where
+  pub words : ws ≡ encode t
+  pub valid : Valid t

@@ -14,7 +14,7 @@ use Rattle.arith.specs.ChoiceLaws.{if-yes, if-no}
 use Rattle.expr.specs.Refusals.{refusal}
 use Rattle.expr.specs.Outcome.{Outcome, refused, accepted, _andThen_}
 use Rattle.expr.specs.Expr.{Expr, leaf, unary, binary, Binary, Add, Mul, And, Or, Xor, Concat, unaryNumber, unaryOperand, binaryNumber, encode, nodes, depth}
-use Rattle.expr.specs.Parse.{Kind, none, one, two, kinds, kindAt, operandOk, nodeKind, children, node, subtree, wordCountOk, whole, parse, operandsOk, Valid}
+use Rattle.expr.specs.Parse.{Kind, none, one, two, kinds, kindAt, operandOk, nodeKind, children, node, subtree, wordCountOk, whole, parse, operandsOk, Valid, Accepts}
 use Rattle.expr.specs.OutcomeLaws.{then-accepted}
 use Rattle.expr.specs.KindLaws.{number, operand, kind-back, Reads, kind-reads}
 use Rattle.expr.specs.ExprLaws.{length-encode, nodes-pos, depth-pos}
@@ -168,11 +168,7 @@ subtree-found (suc d) ws = node-found d (subtree d) (subtree-found d) ws
 pub subtree-sound : (d : ℕ) (ws : List ℕ) (t : Expr) (rest : List ℕ) → subtree d ws ≡ accepted (t, rest) → Begins d ws t rest
 subtree-sound d ws t rest e = subst (Found d ws) e (subtree-found d ws)
 
--- the words are the tree's, and the tree is valid
-pub record Accepts (ws : List ℕ) (t : Expr) : Type 0 where
-  pub words : ws ≡ encode t
-  pub valid : Valid t
-
+-- what is accepted is the words of a valid tree, and they are accepted
 pub parse-sound : (ws : List ℕ) (t : Expr) → parse ws ≡ accepted t → Accepts ws t
 unfolding parse
 parse-sound ws t e = counted (wordCountOk (length ws)) refl e

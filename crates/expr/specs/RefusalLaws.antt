@@ -1,5 +1,4 @@
--- Every refusal has a number of its own: the reason tells which it was. So a promise that goes by reasons fixes the answer.
--- Assumes nothing.
+-- Every refusal has a number of its own: a promise that goes by reasons fixes which refusal is answered. Assumes nothing.
 use mathlib.Core.Path.{_≡_, refl, sym, ap, _∙_}
 use lib.Dec.{eqb}
 use Rattle.arith.specs.Choice.{if_then_else_}

@@ -1,17 +1,24 @@
--- The first subtree of words that begin with a tree's takes the words of that tree. Assumes nothing.
+-- In a list of whole nodes, at most 512, `spanOf` is the length of the tree that stands in front, and refuses with 6 or 3 where
+-- `parse` does. Assumes nothing.
 use mathlib.Core.Path.{_≡_, refl, sym, ap, _∙_}
+use mathlib.Core.Logic.{_⊎_, ⊎-elim}
+use mathlib.Core.Bool.{Bool, true, false, not}
 use mathlib.Core.List.{List, [], _∷_, _++_, append-assoc}
-use Prim.Native.Nat.{ℕ, suc, _+_, _*_}
+use Prim.Native.Nat.{ℕ, zero, suc, _+_, _*_}
 use native.Mathlib.Omega.{arith}
-use lib.Dec.{T}
+use lib.Dec.{T, eqb}
 use lib.ListN.{length}
+use Rattle.arith.specs.Choice.{if_then_else_}
 use Rattle.arith.specs.ChoiceLaws.{if-yes}
-use Rattle.expr.specs.Outcome.{accepted, mapped}
+use Rattle.expr.specs.declared.refusal.Reason.{Reason}
+use Rattle.expr.specs.Refusals.{refusal}
+use Rattle.expr.specs.Outcome.{Outcome, refused, accepted, mapped, _andThen_}
 use Rattle.expr.specs.Expr.{Expr, leaf, unary, binary, encode, nodes}
-use Rattle.expr.specs.Parse.{none, one, two, arityOf, wordCountOk}
+use Rattle.expr.specs.Parse.{Kind, none, one, two, arity, arityOf, kinds, kindAt, operandOk, nodeKind, children, node, subtree, whole, wordCountOk, parse}
 use Rattle.expr.specs.Span.{dueWords, spanOf}
-use Rattle.expr.specs.OutcomeLaws.{then-accepted, mapped-mapped}
-use Rattle.expr.specs.KindLaws.{number, operand, number-arity}
+use Rattle.expr.specs.OutcomeLaws.{then-accepted, then-refused, mapped-mapped}
+use Rattle.expr.specs.KindLaws.{number, operand, number-arity, arity-is}
+use Rattle.expr.specs.ParseLaws.{subtree-sound, node-read}
 
 pub due-none : (ws : List ℕ) → dueWords ws 0 ≡ accepted 0
 unfolding dueWords
@@ -49,3 +56,85 @@ span-encode ws t rest e h =
     ∙ due-encode t rest 0
     ∙ ap (mapped (λ m. 2 * nodes t + m)) (due-none rest)
     ∙ ap accepted (let s : 2 * nodes t + 0 ≡ 2 * nodes t = omega arith in s)
+
+-- ---- refusals
+
+-- the refusals that both give
+abbrev pub Shape : Reason → Type 0
+Shape r = (r ≡ refusal 6) ⊎ (r ≡ refusal 3)
+
+-- a refusal of another number is none of them
+other : (n : ℕ) {A : Type 0} {r : Reason} → refusal n ≡ r → Shape r → (n ≡ 6 → ⊥) → (n ≡ 3 → ⊥) → A
+other n e h f g = absurd (⊎-elim (λ s. f (ap (λ (r : Reason). r .number) (e ∙ s))) (λ s. g (ap (λ (r : Reason). r .number) (e ∙ s))) h)
+
+-- a node that is refused for its shape has no known kind
+node-shape : (levels k o : ℕ) {r : Reason} → nodeKind levels k o ≡ refused r → Shape r → arityOf k ≡ refused r
+unfolding nodeKind
+node-shape levels k o {r} e h = arity-is o k ∙ known (kindAt k (kinds o)) e
+  where
+    limits : (ok none-left : Bool) (κ : Kind) → (if not ok then refused (refusal 4) else if none-left then refused (refusal 5) else accepted κ) ≡ refused r → accepted (arity κ) ≡ refused r
+    limits true false κ f = absurd (let z : _≡_ {A = ℕ} 0 1 = cc in omega arith)
+    limits true true κ f = let s : refusal 5 ≡ r = cc in other 5 s h (λ z. omega arith) (λ z. omega arith)
+    limits false none-left κ f = let s : refusal 4 ≡ r = cc in other 4 s h (λ z. omega arith) (λ z. omega arith)
+
+    known : (x : Outcome Kind) → (x andThen (λ κ. if not (operandOk k o) then refused (refusal 4) else if eqb levels 0 then refused (refusal 5) else accepted κ)) ≡ refused r → mapped arity x ≡ refused r
+    known (refused q) f = let s : q ≡ r = cc in ap refused s
+    known (accepted κ) f = limits (operandOk k o) (eqb levels 0) κ f
+
+-- what is made of an accepted reading does not refuse
+refused-before : {A B : Type 0} (o : Outcome A) (f : A → B) {r : Reason} → (o andThen (λ a. accepted (f a))) ≡ refused r → o ≡ refused r
+refused-before (refused q) f {r} e = let s : q ≡ r = cc in ap refused s
+refused-before (accepted a) f e = absurd (let z : _≡_ {A = ℕ} 0 1 = cc in omega arith)
+
+-- a reader of subtrees, and the same refusals of their lengths
+abbrev Agrees : (List ℕ → Outcome (Expr × List ℕ)) → Type 0
+Agrees next = (ws : List ℕ) (due : ℕ) (r : Reason) → next ws ≡ refused r → Shape r → dueWords ws (suc due) ≡ refused r
+
+-- it holds of a node if it holds of its children
+module _ (d k o : ℕ) (ws : List ℕ) (due : ℕ) {r : Reason} (h : Shape r) (agrees : Agrees (subtree d)) where
+  second : (x : Outcome (Expr × List ℕ)) (f : Expr × List ℕ → Expr × List ℕ → Expr × List ℕ) → subtree d ws ≡ x
+      → (x andThen (λ p. subtree d (p .1) andThen (λ q. accepted (f p q)))) ≡ refused r → dueWords ws (suc (suc due)) ≡ refused r
+  second (refused q) f g i = let s : q ≡ r = cc in agrees ws (suc due) r (g ∙ ap refused s) h
+  second (accepted p) f g i =
+      ap (λ (l : List ℕ). dueWords l (suc (suc due))) (subtree-sound d ws (p .0) (p .1) g .words)
+      ∙ due-encode (p .0) (p .1) (suc due)
+      ∙ ap (mapped (λ m. 2 * nodes (p .0) + m)) (agrees (p .1) due r (refused-before (subtree d (p .1)) (f p) i) h)
+
+  below : (κ : Kind) → arityOf k ≡ accepted (arity κ) → children (subtree d) κ ws ≡ refused r → dueWords (k ∷ o ∷ ws) (suc due) ≡ refused r
+  below (none j) a g = absurd (let z : _≡_ {A = ℕ} 0 1 = cc in omega arith)
+  below (one j) a g = due-node k o ws due a (suc due) (omega arith) ∙ ap (mapped (λ m. 2 + m)) (agrees ws due r (refused-before (subtree d ws) _ g) h)
+  below (two j) a g = due-node k o ws due a (suc (suc due)) (omega arith) ∙ ap (mapped (λ m. 2 + m)) (second (subtree d ws) _ refl g)
+
+  at-node : (x : Outcome Kind) → nodeKind (suc d) k o ≡ x → (x andThen (λ κ. children (subtree d) κ ws)) ≡ refused r → dueWords (k ∷ o ∷ ws) (suc due) ≡ refused r
+  unfolding dueWords
+  at-node (refused q) f g = let s : q ≡ r = cc in then-refused (node-shape (suc d) k o (f ∙ ap refused s) h) _
+  at-node (accepted κ) f g = below κ (ap arityOf (node-read (suc d) k o f .reads .number-is) ∙ number-arity κ) g
+
+-- where no level is left no kind is accepted
+no-level : (k o : ℕ) (ws : List ℕ) (due : ℕ) {r : Reason} → Shape r → (f : Kind → Outcome (Expr × List ℕ)) (x : Outcome Kind)
+    → nodeKind 0 k o ≡ x → (x andThen f) ≡ refused r → dueWords (k ∷ o ∷ ws) (suc due) ≡ refused r
+unfolding dueWords
+no-level k o ws due {r} h f (refused q) g e = let s : q ≡ r = cc in then-refused (node-shape 0 k o (g ∙ ap refused s) h) _
+no-level k o ws due h f (accepted κ) g e = absurd (omega (arith, node-read 0 k o g .level))
+
+pub due-shape : (d : ℕ) → Agrees (subtree d)
+unfolding subtree node dueWords
+due-shape zero [] due r e h = let s : refusal 6 ≡ r = cc in ap refused s
+due-shape zero (k ∷ []) due r e h = let s : refusal 6 ≡ r = cc in ap refused s
+due-shape zero (k ∷ o ∷ ws) due r e h = no-level k o ws due h _ (nodeKind 0 k o) refl e
+due-shape (suc d) [] due r e h = let s : refusal 6 ≡ r = cc in ap refused s
+due-shape (suc d) (k ∷ []) due r e h = let s : refusal 6 ≡ r = cc in ap refused s
+due-shape (suc d) (k ∷ o ∷ ws) due r e h = at-node d k o ws due h (due-shape d) (nodeKind (suc d) k o) refl e
+
+pub span-refused : (ws : List ℕ) {r : Reason} → parse ws ≡ refused r → Shape r → spanOf ws ≡ refused r
+unfolding parse spanOf
+span-refused ws {r} e h = counted (wordCountOk (length ws)) e
+  where
+    read : (x : Outcome (Expr × List ℕ)) → subtree 64 ws ≡ x → (x andThen whole) ≡ refused r → dueWords ws 1 ≡ refused r
+    read (refused q) f g = let s : q ≡ r = cc in due-shape 64 ws 0 r (f ∙ ap refused s) h
+    read (accepted (t, [])) f g = absurd (let z : _≡_ {A = ℕ} 0 1 = cc in omega arith)
+    read (accepted (t, y ∷ ys)) f g = let s : refusal 7 ≡ r = cc in other 7 s h (λ z. omega arith) (λ z. omega arith)
+
+    counted : (b : Bool) → (if b then subtree 64 ws andThen whole else refused (refusal 2)) ≡ refused r → (if b then dueWords ws 1 else refused (refusal 2)) ≡ refused r
+    counted true g = read (subtree 64 ws) refl g
+    counted false g = let s : refusal 2 ≡ r = cc in ap refused s

@@ -44,6 +44,7 @@ pub struct Reason {
     pub second: u32,
 }
 
+// One line for each case below.
 fn numbered(number: u32, first: u32, second: u32) -> Reason
     ensures { λ r. ⌜ r ≡ record { number = number; first = first; second = second } ⌝ }
 {

@@ -1,6 +1,7 @@
 // The answer to a request, by the function of `arith` or `expr` that it names.
 use crate::text;
 use check::same;
+use expr::Arity;
 use expr::Counted;
 use expr::Verdict;
 use expr::refusal::Refusal;
@@ -28,6 +29,19 @@ fn verdict(v: Verdict) -> Answer {
     match v {
         Verdict::Known(yes) => Answer::Value(yes as u64),
         Verdict::Refused(r) => Answer::Refused(r),
+    }
+}
+
+// A kind word alone.
+fn of_kind(words: &[u64]) -> Answer {
+    if words.len() != 1 {
+        return Answer::NoRequest;
+    }
+    match expr::arity_of(words[0]) {
+        Arity::Zero => Answer::Value(0),
+        Arity::One => Answer::Value(1),
+        Arity::Two => Answer::Value(2),
+        Arity::Refused(r) => Answer::Refused(r),
     }
 }
 
@@ -100,6 +114,9 @@ fn arithmetic(name: &[u8], args: &[u64]) -> Answer {
 }
 
 fn of_list(name: &[u8], words: &[u64]) -> Answer {
+    if same(name, b"arity_of") {
+        return of_kind(words);
+    }
     if same(name, b"check_tree") {
         return counted(expr::check_tree(words));
     }

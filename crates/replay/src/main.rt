@@ -78,7 +78,7 @@ fn put_line(out: &mut [u8], have: usize, line: &[u8]) -> usize
     put(out, answered, b"\n")
 }
 
-// A last line without its end is left out, so that a list that is cut short does not match.
+// A last line without its end gets a line `?` alone, so that a list that is cut short or has bytes added to it does not match.
 fn replay(input: &[u8]) {
     let mut out = io::large_buffer();
     let mut have = 0;
@@ -90,6 +90,9 @@ fn replay(input: &[u8]) {
         end = text::find(input, at, b'\n');
     }
     io::write_all(1, &out[0..have]);
+    if at < input.len() {
+        io::write_all(1, b"?\n");
+    }
 }
 
 fn main() {

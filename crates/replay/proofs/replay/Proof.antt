@@ -7,11 +7,11 @@ use Rattle.replay.proofs.replay.Statement.{statement}
 use Rattle.replay.proofs.replay.Tie as tie
 
 abbrev Inv-loop : tie.InvT-loop
-Inv-loop input out₀ have₀ at₀ end₀ out have at end =
+Inv-loop input out₀ have₀ at₀ end₀ t6 out have at end =
     (length out ≡ 65536) × (have < length out) × (at ≤ end) × (end ≤ length input)
 
 abbrev μ-loop : tie.MeasureT-loop
-μ-loop input out₀ have₀ at₀ end₀ out have at end = length input - end
+μ-loop input out₀ have₀ at₀ end₀ t6 out have at end = length input - end
 
 pub replay-spec : {M : Type 1} → statement M
 replay-spec =
@@ -35,4 +35,7 @@ replay-spec =
     (λ c. search needs)
     (λ c. search needs)
     (λ c κs. search needs)
+    (λ c. search needs)
+    (λ c κs. search needs)
+    (λ c. search needs)
     (λ c. search needs))
