@@ -156,11 +156,8 @@ module _ (d : ℕ) (ws : List ℕ) where
           let g = ap arityOutcome (sym f) in
           of-node 1 g _ (ap (mapped (λ n. n + 1)) i ∙ one-count (subtree (d - 1)) (tail 2 ws) (kind 1 g .answer) (kind 1 g .made))
 
-      pub one-refused : (r : Refusal) → a ≡ arity.One → x ≡ Refused r → refused (reasonOf r) ≡ mapped count (subtree d ws)
-      one-refused r f j = ap (λ (y : Counted). mapped (λ n. n + 1) (countedOutcome y)) (sym j) ∙ one-over f
-
-      pub one-case : (n : ℕ) → a ≡ arity.One → x ≡ Count n → accepted (n + 1) ≡ mapped count (subtree d ws)
-      one-case n f j = ap (λ (y : Counted). mapped (λ n. n + 1) (countedOutcome y)) (sym j) ∙ one-over f
+      pub one-case : (y : Counted) (z : Outcome ℕ) → a ≡ arity.One → x ≡ y → z ≡ mapped (λ n. n + 1) (countedOutcome y) → z ≡ mapped count (subtree d ws)
+      one-case y z f j k = k ∙ ap (λ (v : Counted). mapped (λ n. n + 1) (countedOutcome v)) (sym j) ∙ one-over f
 
       pub left-refused : (r : Refusal) → a ≡ arity.Two → x ≡ Refused r → refused (reasonOf r) ≡ mapped count (subtree d ws)
       left-refused r f j =
@@ -177,11 +174,8 @@ module _ (d : ℕ) (ws : List ℕ) where
             ∙ ap (λ (o : ℕ). mapped (λ m. o + m + 1) (mapped count (subtree (d - 1) (l .answer .1)))) (sym (l .made))
             ∙ two-count (subtree (d - 1)) (tail 2 ws) (kind 2 g .answer) (l .answer .0) (l .answer .1) (kind 2 g .made) (l .was))
 
-        pub right-refused : (r : Refusal) → y ≡ Refused r → refused (reasonOf r) ≡ mapped count (subtree d ws)
-        right-refused r o = ap (λ (z : Counted). mapped (λ m. n + m + 1) (countedOutcome z)) (sym o) ∙ two-over
-
-        pub two-case : (m : ℕ) → y ≡ Count m → accepted (n + m + 1) ≡ mapped count (subtree d ws)
-        two-case m o = ap (λ (z : Counted). mapped (λ m. n + m + 1) (countedOutcome z)) (sym o) ∙ two-over
+        pub two-case : (v : Counted) (z : Outcome ℕ) → y ≡ v → z ≡ mapped (λ m. n + m + 1) (countedOutcome v) → z ≡ mapped count (subtree d ws)
+        two-case v z o p = p ∙ ap (λ (u : Counted). mapped (λ m. n + m + 1) (countedOutcome u)) (sym o) ∙ two-over
 
 -- ---- the sums fit
 

@@ -15,8 +15,8 @@ use Rattle.expr.specs.declared.refusal.Refusal.{Refusal}
 use Rattle.expr.specs.declared.Arity.{Arity}
 use Rattle.expr.specs.declared.Arity.the-variants.{Zero, One, Two, Refused}
 use Rattle.expr.specs.Refusals.{refusal, reasonOf}
-use Rattle.expr.specs.Outcome.{Outcome, refused, accepted, mapped}
-use Rattle.expr.specs.OutcomeLaws.{then-refused, mapped-mapped}
+use Rattle.expr.specs.Outcome.{refused, accepted, mapped}
+use Rattle.expr.specs.OutcomeLaws.{then-refused, mapped-mapped, mapped-same}
 use Rattle.expr.specs.Parse.{arityOf, wordCountOk}
 use Rattle.expr.specs.Span.{dueWords, spanOf}
 use Rattle.expr.specs.SpanLaws.{due-none, due-node}
@@ -63,14 +63,10 @@ module _ (ws : List ℕ) (b : Bool) (e : b ≡ wordCountOk (length ws)) where
       let t : T (wordCountOk (length ws)) = subst T (sym (not-false b f) ∙ e) tt in
       record {
         counted = t;
-        span-is = if-yes (wordCountOk (length ws)) _ _ t ∙ go (dueWords ws 1);
+        span-is = if-yes (wordCountOk (length ws)) _ _ t ∙ sym (mapped-same (λ m. 0 + m) (λ m. let z : 0 + m ≡ m = omega arith in z) (dueWords ws 1));
         even = refl;
         few = omega arith;
       }
-    where
-      go : (o : Outcome ℕ) → o ≡ mapped (λ m. 0 + m) o
-      go (refused r) = refl
-      go (accepted m) = ap accepted (omega arith)
 
 -- ---- in the loop
 

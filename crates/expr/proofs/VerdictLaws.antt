@@ -7,9 +7,8 @@ use Rattle.expr.specs.declared.refusal.Refusal.{Refusal}
 use Rattle.expr.specs.declared.Counted.{Counted}
 use Rattle.expr.specs.declared.Counted.the-variants as counted
 use Rattle.expr.specs.declared.Verdict.{Verdict}
-use Rattle.expr.specs.declared.Verdict.the-variants as verdict
 use Rattle.expr.specs.Refusals.{reasonOf}
-use Rattle.expr.specs.Outcome.{refused, accepted, mapped}
+use Rattle.expr.specs.Outcome.{Outcome, refused, accepted, mapped}
 use Rattle.expr.specs.OutcomeLaws.{mapped-accepted, Made, mapped-made, refused-mapped, mapped-mapped}
 use Rattle.expr.specs.Expr.{Expr, encode, nodes}
 use Rattle.expr.specs.ExprUtils.{isConstantSubtree, hasVarDep}
@@ -27,13 +26,9 @@ module _ (ws : List ℕ) (x : Counted) (e : countedOutcome x ≡ mapped nodes (p
       let m : Made nodes (parse ws) n = mapped-made nodes (parse ws) (ap countedOutcome (sym g) ∙ e) in
       ap accepted (h (m .answer) (parse-sound ws (m .answer) (m .was) .words)) ∙ sym (mapped-accepted (m .was) hasVarDep)
 
-module _ (ws : List ℕ) (x : Verdict) (e : verdictOutcome x ≡ mapped hasVarDep (parse ws)) where
-  -- the answer to one question is the other's, turned round
-  turned : mapped not (verdictOutcome x) ≡ mapped isConstantSubtree (parse ws)
-  turned = ap (mapped not) e ∙ mapped-mapped not hasVarDep isConstantSubtree constant-is (parse ws)
-
-  pub constant-refused : (r : Refusal) → x ≡ verdict.Refused r → refused (reasonOf r) ≡ mapped isConstantSubtree (parse ws)
-  constant-refused r g = ap (λ (y : Verdict). mapped not (verdictOutcome y)) (sym g) ∙ turned
-
-  pub constant-known : (b : Bool) → x ≡ verdict.Known b → accepted (not b) ≡ mapped isConstantSubtree (parse ws)
-  constant-known b g = ap (λ (y : Verdict). mapped not (verdictOutcome y)) (sym g) ∙ turned
+-- the answer to one question is the other's, turned round
+pub turned-round : (ws : List ℕ) (x y : Verdict) (z : Outcome Bool) → verdictOutcome x ≡ mapped hasVarDep (parse ws) → x ≡ y → z ≡ mapped not (verdictOutcome y)
+    → z ≡ mapped isConstantSubtree (parse ws)
+turned-round ws x y z e f g =
+    g ∙ ap (λ (v : Verdict). mapped not (verdictOutcome v)) (sym f) ∙ ap (mapped not) e
+    ∙ mapped-mapped not hasVarDep isConstantSubtree constant-is (parse ws)

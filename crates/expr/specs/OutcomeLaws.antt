@@ -34,3 +34,7 @@ module _ {A B C : Type 0} where
   pub mapped-mapped : (f : B → C) (g : A → B) (h : A → C) → ((a : A) → f (g a) ≡ h a) → (o : Outcome A) → mapped f (mapped g o) ≡ mapped h o
   mapped-mapped f g h e (refused r) = refl
   mapped-mapped f g h e (accepted a) = ap accepted (e a)
+
+pub mapped-same : {A : Type 0} (f : A → A) → ((a : A) → f a ≡ a) → (o : Outcome A) → mapped f o ≡ o
+mapped-same f e (refused r) = refl
+mapped-same f e (accepted a) = ap accepted (e a)

@@ -7,7 +7,7 @@ use mathlib.Core.List.{List, [], _∷_, _++_, append-assoc}
 use Prim.Native.Nat.{ℕ, zero, suc, _+_, _*_}
 use native.Mathlib.Omega.{arith}
 use lib.Dec.{T, eqb}
-use lib.ListN.{length}
+use lib.ListN.{length, drop}
 use Rattle.arith.specs.Choice.{if_then_else_}
 use Rattle.arith.specs.ChoiceLaws.{if-yes}
 use Rattle.expr.specs.declared.refusal.Reason.{Reason}
@@ -16,7 +16,7 @@ use Rattle.expr.specs.Outcome.{Outcome, refused, accepted, mapped, _andT
 use Rattle.expr.specs.Expr.{Expr, leaf, unary, binary, encode, nodes}
 use Rattle.expr.specs.Parse.{Kind, none, one, two, arity, arityOf, kinds, kindAt, operandOk, nodeKind, children, node, subtree, whole, wordCountOk, parse}
 use Rattle.expr.specs.Span.{dueWords, spanOf}
-use Rattle.expr.specs.OutcomeLaws.{then-accepted, then-refused, mapped-mapped}
+use Rattle.expr.specs.OutcomeLaws.{then-accepted, then-refused, mapped-mapped, mapped-same}
 use Rattle.expr.specs.KindLaws.{number, operand, number-arity, arity-is}
 use Rattle.expr.specs.ParseLaws.{subtree-sound, node-read}
 
@@ -31,6 +31,48 @@ pub due-node : (k o : ℕ) (ws : List ℕ) (due : ℕ) {n : ℕ} → arityOf k �
     → dueWords (k ∷ o ∷ ws) (suc due) ≡ mapped (λ m. 2 + m) (dueWords ws d)
 unfolding dueWords
 due-node k o ws due e d f = then-accepted e _ ∙ ap (λ (i : ℕ). mapped (λ m. 2 + m) (dueWords ws i)) (sym f)
+
+-- subtrees one after the other: the words of the first a, and then those of the next b behind them
+abbrev pub behind : List ℕ → ℕ → Outcome ℕ → Outcome ℕ
+behind ws b o = o andThen (λ n. mapped (λ m. n + m) (dueWords (drop n ws) b))
+
+none-before : (ws : List ℕ) (b : ℕ) → dueWords ws (0 + b) ≡ behind ws b (accepted 0)
+none-before ws b =
+    ap (dueWords ws) (let e : 0 + b ≡ b = omega arith in e)
+    ∙ sym (mapped-same (λ m. 0 + m) (λ m. let e : 0 + m ≡ m = omega arith in e) (dueWords ws b))
+
+two-before : (k o b : ℕ) (ws : List ℕ) (x : Outcome ℕ) → mapped (λ m. 2 + m) (behind ws b x) ≡ behind (k ∷ o ∷ ws) b (mapped (λ m. 2 + m) x)
+two-before k o b ws (refused r) = refl
+two-before k o b ws (accepted n) =
+    mapped-mapped _ _ (λ m. 2 + n + m) (λ m. let e : 2 + (n + m) ≡ 2 + n + m = omega arith in e) (dueWords (drop n ws) b)
+    ∙ ap (λ (i : ℕ). mapped (λ m. 2 + n + m) (dueWords (drop i (k ∷ o ∷ ws)) b)) (let e : suc (suc n) ≡ 2 + n = omega arith in e)
+
+node-before : (k o a b : ℕ) (ws : List ℕ) → ((n : ℕ) → dueWords ws (n + (a + b)) ≡ behind ws b (dueWords ws (n + a))) → (x : Outcome ℕ)
+    → (x andThen (λ n. mapped (λ m. 2 + m) (dueWords ws (n + (a + b))))) ≡ behind (k ∷ o ∷ ws) b (x andThen (λ n. mapped (λ m. 2 + m) (dueWords ws (n + a))))
+node-before k o a b ws h (refused r) = refl
+node-before k o a b ws h (accepted n) = ap (mapped (λ m. 2 + m)) (h n) ∙ two-before k o b ws (dueWords ws (n + a))
+
+pub due-add : (ws : List ℕ) (a b : ℕ) → dueWords ws (a + b) ≡ behind ws b (dueWords ws a)
+unfolding dueWords
+due-add [] zero b = none-before [] b
+due-add (k ∷ []) zero b = none-before (k ∷ []) b
+due-add (k ∷ o ∷ ws) zero b = none-before (k ∷ o ∷ ws) b
+due-add [] (suc a) b = ap (dueWords []) (let e : suc a + b ≡ suc (a + b) = omega arith in e)
+due-add (k ∷ []) (suc a) b = ap (dueWords (k ∷ [])) (let e : suc a + b ≡ suc (a + b) = omega arith in e)
+due-add (k ∷ o ∷ ws) (suc a) b =
+    ap (dueWords (k ∷ o ∷ ws)) (let e : suc a + b ≡ suc (a + b) = omega arith in e)
+    ∙ node-before k o a b ws (λ n. ap (dueWords ws) (let e : n + (a + b) ≡ n + a + b = omega arith in e) ∙ due-add ws (n + a) b) (arityOf k)
+
+-- a subtree takes two words and what its children take, whatever its operands and depth
+pub span-leaf : (k o : ℕ) (ws : List ℕ) → arityOf k ≡ accepted 0 → dueWords (k ∷ o ∷ ws) 1 ≡ accepted 2
+span-leaf k o ws e = due-node k o ws 0 e 0 (omega arith) ∙ ap (mapped (λ m. 2 + m)) (due-none ws)
+
+pub span-one : (k o : ℕ) (ws : List ℕ) → arityOf k ≡ accepted 1 → dueWords (k ∷ o ∷ ws) 1 ≡ mapped (λ m. 2 + m) (dueWords ws 1)
+span-one k o ws e = due-node k o ws 0 e 1 (omega arith)
+
+pub span-two : (k o : ℕ) (ws : List ℕ) → arityOf k ≡ accepted 2
+    → dueWords (k ∷ o ∷ ws) 1 ≡ mapped (λ m. 2 + m) (dueWords ws 1 andThen (λ n. mapped (λ m. n + m) (dueWords (drop n ws) 1)))
+span-two k o ws e = due-node k o ws 0 e 2 (omega arith) ∙ ap (mapped (λ m. 2 + m)) (due-add ws 1 1)
 
 pub due-encode : (t : Expr) (rest : List ℕ) (due : ℕ) → dueWords (encode t ++ rest) (suc due) ≡ mapped (λ m. 2 * nodes t + m) (dueWords rest due)
 unfolding encode nodes

@@ -3,7 +3,7 @@ use Prim.Native.Nat.{ℕ, _<_}
 use borrow.Author.Needs.{needs}
 use borrow.Fn.Kinds.{In}
 use borrow.Fn.PlainCycle.{Measures, is, falls, and}
-use Rattle.expr.proofs.CheckLaws.{too-short, node-refused, one-level, two-level, leaf-case, one-refused, one-case, left-refused, right-refused, two-case, level-falls, right-within, one-fits, right-fits, right-scaled, both-fit, two-fit}
+use Rattle.expr.proofs.CheckLaws.{too-short, node-refused, one-level, two-level, leaf-case, one-case, left-refused, two-case, level-falls, right-within, one-fits, right-fits, right-scaled, both-fit, two-fit}
 use Rattle.expr.proofs.check_at.Reads as fn
 use Rattle.expr.proofs.check_at.Kinds as kinds
 use Rattle.expr.proofs.+check_at.Lts-check_at as lts
@@ -23,7 +23,7 @@ below t = and 1 kinds.ps (falls 1 kinds.ps _<_ μ t) fn.Pre
 abbrev claims : ℕ → lts.Claims
 claims t = (node-arity.Asked, node-arity.Learnt, below t, fn.Post)
 
-ruleset rules = (needs, too-short, node-refused, one-level, two-level, leaf-case, one-refused, one-case, left-refused, right-refused, two-case, level-falls, right-within, one-fits, right-fits, right-scaled, both-fit, two-fit)
+ruleset rules = (needs, too-short, node-refused, one-level, two-level, leaf-case, one-case, left-refused, two-case, level-falls, right-within, one-fits, right-fits, right-scaled, both-fit, two-fit)
 
 pub +check-at-spec : {M : Type 1} → statement M
 +check-at-spec = close μ λ t. lts.spec (claims t) (at t) fn.Post

@@ -1,10 +1,10 @@
 -- `expr::is_constant_subtree` meets its contract. Assumes nothing.
 use borrow.Author.Needs.{needs}
-use Rattle.expr.proofs.VerdictLaws.{constant-refused, constant-known}
+use Rattle.expr.proofs.VerdictLaws.{turned-round}
 use Rattle.expr.proofs.is_constant_subtree.Statement.{statement}
 use Rattle.expr.proofs.is_constant_subtree.Tie as tie
 
-ruleset rules = (needs, constant-refused, constant-known)
+ruleset rules = (needs, turned-round)
 
 pub is-constant-subtree-spec : {M : Type 1} → statement M
 is-constant-subtree-spec =
