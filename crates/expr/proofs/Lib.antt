@@ -1,4 +1,3 @@
-pub mod TailLaws
 pub mod NodeLaws
 pub mod CheckLaws
 pub mod TreeLaws

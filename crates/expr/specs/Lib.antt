@@ -4,6 +4,7 @@ pub mod Expr
 pub mod ExprUtils
 pub mod Parse
 pub mod Span
+pub mod Front
 pub mod SameWords
 pub mod Answers
 pub mod RefusalLaws
@@ -13,3 +14,5 @@ pub mod ExprLaws
 pub mod SameWordsLaws
 pub mod ParseLaws
 pub mod SpanLaws
+pub mod TailLaws
+pub mod FrontLaws

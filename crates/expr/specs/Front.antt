@@ -1,0 +1,23 @@
+-- Words that begin with those of a tree: what a walk over a part of the lent words goes by. Definitions only.
+use mathlib.Core.Path.{_≡_}
+use mathlib.Core.List.{List, _++_}
+use Prim.Native.Nat.{ℕ}
+use lib.Dec.{T}
+use lib.ListN.{length}
+use Rattle.expr.specs.Expr.{Expr, encode}
+use Rattle.expr.specs.Parse.{operandsOk}
+
+-- the words begin with those of the tree, whose operands are in range
+pub record Front (ws : List ℕ) (t : Expr) : Type 0 where
+  pub rest : List ℕ
+  pub words : ws ≡ encode t ++ rest
+  pub operands : T (operandsOk t)
+
+-- the words begin with those of some tree
+pub record Starts (ws : List ℕ) : Type 0 where
+  pub tree : Expr
+  pub front : Front ws tree
+
+-- the tree that the words begin with takes n of them
+pub record Spans (ws : List ℕ) (n : ℕ) : Type 0 where
+  pub spans : (t : Expr) → Front ws t → n ≡ length (encode t)

@@ -1,0 +1,290 @@
+-- The node at the front of a tree's words, and the parts where its children begin. Assumes nothing.
+use mathlib.Core.Path.{_≡_, refl, sym, ap, subst, _∙_}
+use mathlib.Core.Bool.{_&&_}
+use mathlib.Core.List.{List, [], _∷_, _++_, append-assoc, append-nil}
+use Prim.Native.Nat.{ℕ, _+_, _*_, _-_, _^_, _≤_, _<_}
+use native.Mathlib.Omega.{arith}
+use lib.Dec.{T}
+use lib.ListN.{length, drop, getD, length-append}
+use lib.Seq.{drop-at}
+use mir.Facts.{and-yes}
+use mir.Syntax.{w64}
+use mir.Val.{Fits}
+use Rattle.expr.specs.declared.refusal.Reason.{Reason}
+use Rattle.expr.specs.declared.refusal.Refusal.{Refusal}
+use Rattle.expr.specs.declared.Arity.{Arity}
+use Rattle.expr.specs.declared.Arity.the-variants.{Zero, One, Two, Refused}
+use Rattle.expr.specs.declared.Counted.{Counted}
+use Rattle.expr.specs.declared.Counted.the-variants as counted
+use Rattle.expr.specs.Refusals.{reasonOf}
+use Rattle.expr.specs.Outcome.{Outcome, refused, accepted, mapped, _andThen_}
+use Rattle.expr.specs.OutcomeLaws.{then-accepted, then-refused, mapped-accepted, Made, mapped-made, refused-mapped}
+use Rattle.expr.specs.Expr.{Leaf, Unary, Binary, Expr, leaf, unary, binary, leafNumber, leafOperand, unaryNumber, unaryOperand, binaryNumber, encode, nodes}
+use Rattle.expr.specs.ExprLaws.{nodes-pos, length-encode}
+use Rattle.expr.specs.Parse.{Kind, none, one, two, arity, arityOf, operandOk, operandsOk, parse}
+use Rattle.expr.specs.ParseLaws.{parse-sound}
+use Rattle.expr.specs.KindLaws.{number, number-arity}
+use Rattle.expr.specs.Answers.{arityOutcome, countedOutcome}
+use Rattle.expr.specs.Front.{Front, Starts, Spans}
+use Rattle.expr.specs.TailLaws.{tail, tail-drop, length-tail}
+
+-- ---- the tree at the front
+
+-- the first word is the number of the tree's kind
+abbrev rootOf : Expr → Kind
+rootOf (leaf k) = none k
+rootOf (unary k t) = one k
+rootOf (binary k l r) = two k
+
+module _ (ws : List ℕ) where
+  first-word : (t : Expr) → Front ws t → getD ws 0 0 ≡ number (rootOf t)
+  unfolding encode
+  first-word (leaf k) f = ap (λ (l : List ℕ). getD l 0 0) (f .words)
+  first-word (unary k t) f = ap (λ (l : List ℕ). getD l 0 0) (f .words)
+  first-word (binary k l r) f = ap (λ (v : List ℕ). getD v 0 0) (f .words)
+
+  -- the words after the node's own
+  after : (k o : ℕ) (vs : List ℕ) → ws ≡ k ∷ o ∷ vs → tail 2 ws ≡ vs
+  after k o vs e = tail-drop 2 ws ∙ ap (λ (l : List ℕ). drop {A = ℕ} 2 l) e
+
+  pub unary-below : (k : Unary) (t : Expr) → Front ws (unary k t) → Front (tail 2 ws) t
+  unfolding encode operandsOk
+  unary-below k t f = record {
+    rest = f .rest;
+    words = after (unaryNumber k) (unaryOperand k) (encode t ++ f .rest) (f .words);
+    operands = and-yes (operandOk (unaryNumber k) (unaryOperand k)) (operandsOk t) (f .operands) .1;
+  }
+
+  module _ (k : Binary) (l r : Expr) (f : Front ws (binary k l r)) where
+    children-are : tail 2 ws ≡ encode l ++ (encode r ++ f .rest)
+    unfolding encode
+    children-are = after (binaryNumber k) 0 ((encode l ++ encode r) ++ f .rest) (f .words) ∙ append-assoc (encode l) (encode r) (f .rest)
+
+    pub left-below : Front (tail 2 ws) l
+    unfolding operandsOk
+    left-below = record { rest = encode r ++ f .rest; words = children-are; operands = and-yes (operandsOk l) (operandsOk r) (f .operands) .0 }
+
+    pub right-below : Front (tail (length (encode l)) (tail 2 ws)) r
+    unfolding operandsOk
+    right-below = record {
+      rest = f .rest;
+      words =
+        tail-drop (length (encode l)) (tail 2 ws) ∙ ap (drop (length (encode l))) children-are
+        ∙ drop-at (encode l) (encode r ++ f .rest) (length (encode l)) refl;
+      operands = and-yes (operandsOk l) (operandsOk r) (f .operands) .1;
+    }
+
+-- ---- the node, as its arity tells
+
+-- the tree is a leaf, and the first two words are its kind and operand
+pub record LeafNode (ws : List ℕ) (t : Expr) : Type 0 where
+  pub kind : Leaf
+  pub is : t ≡ leaf kind
+  pub number-is : getD ws 0 0 ≡ leafNumber kind
+  pub operand-is : getD ws 1 0 ≡ leafOperand kind
+  pub in-range : T (operandOk (leafNumber kind) (leafOperand kind))
+
+-- a node over one child, whose words begin after the node's
+pub record UnaryNode (ws : List ℕ) (t : Expr) : Type 0 where
+  pub kind : Unary
+  pub child : Expr
+  pub is : t ≡ unary kind child
+  pub number-is : getD ws 0 0 ≡ unaryNumber kind
+  pub operand-is : getD ws 1 0 ≡ unaryOperand kind
+  pub in-range : T (operandOk (unaryNumber kind) (unaryOperand kind))
+  pub below : Front (tail 2 ws) child
+
+-- a node over two children; the words of the right one begin after those of the left one
+pub record BinaryNode (ws : List ℕ) (t : Expr) : Type 0 where
+  pub kind : Binary
+  pub left : Expr
+  pub right : Expr
+  pub is : t ≡ binary kind left right
+  pub number-is : getD ws 0 0 ≡ binaryNumber kind
+  pub left-below : Front (tail 2 ws) left
+  pub right-below : Front (tail (length (encode left)) (tail 2 ws)) right
+
+-- what the first word says of the number of children holds of the tree
+module _ (ws : List ℕ) (a : Arity) (e : arityOutcome a ≡ arityOf (getD ws 0 0)) where
+  told : (t : Expr) → Front ws t → arityOutcome a ≡ accepted (arity (rootOf t))
+  told t f = e ∙ ap arityOf (first-word ws t f) ∙ number-arity (rootOf t)
+
+  -- and so a tree of another kind is not at the front
+  module _ {A : Type 0} (t : Expr) (f : Front ws t) where
+    apart : (n : ℕ) → arityOutcome a ≡ accepted n → (n ≡ arity (rootOf t) → ⊥) → A
+    apart n g h = absurd (h (let z = told t f in cc))
+
+    pub no-refused : (r : Refusal) → a ≡ Refused r → A
+    no-refused r g = absurd (let z = told t f in let h = ap arityOutcome g in let y : _≡_ {A = ℕ} 0 1 = cc in omega arith)
+
+  pub leaf-node : (t : Expr) → a ≡ Zero → Front ws t → LeafNode ws t
+  unfolding encode operandsOk
+  leaf-node (leaf k) g f = record {
+    kind = k;
+    is = refl;
+    number-is = first-word ws (leaf k) f;
+    operand-is = ap (λ (l : List ℕ). getD l 1 0) (f .words);
+    in-range = f .operands;
+  }
+  leaf-node (unary k t) g f = apart (unary k t) f 0 (ap arityOutcome g) (λ z. omega arith)
+  leaf-node (binary k l r) g f = apart (binary k l r) f 0 (ap arityOutcome g) (λ z. omega arith)
+
+  pub unary-node : (t : Expr) → a ≡ One → Front ws t → UnaryNode ws t
+  unfolding encode operandsOk
+  unary-node (leaf k) g f = apart (leaf k) f 1 (ap arityOutcome g) (λ z. omega arith)
+  unary-node (unary k t) g f = record {
+    kind = k;
+    child = t;
+    is = refl;
+    number-is = first-word ws (unary k t) f;
+    operand-is = ap (λ (l : List ℕ). getD l 1 0) (f .words);
+    in-range = and-yes (operandOk (unaryNumber k) (unaryOperand k)) (operandsOk t) (f .operands) .0;
+    below = unary-below ws k t f;
+  }
+  unary-node (binary k l r) g f = apart (binary k l r) f 1 (ap arityOutcome g) (λ z. omega arith)
+
+  pub binary-node : (t : Expr) → a ≡ Two → Front ws t → BinaryNode ws t
+  binary-node (leaf k) g f = apart (leaf k) f 2 (ap arityOutcome g) (λ z. omega arith)
+  binary-node (unary k t) g f = apart (unary k t) f 2 (ap arityOutcome g) (λ z. omega arith)
+  binary-node (binary k l r) g f = record {
+    kind = k;
+    left = l;
+    right = r;
+    is = refl;
+    number-is = first-word ws (binary k l r) f;
+    left-below = left-below ws k l r f;
+    right-below = right-below ws k l r f;
+  }
+
+-- ---- the calls of a walk
+
+front-length : (ws : List ℕ) (t : Expr) → Front ws t → length (encode t) ≤ length ws
+front-length ws t f = omega (arith, ap length (f .words), length-append (encode t) (f .rest))
+
+module _ (ws : List ℕ) (s : Starts ws) where
+  pub has-node : 2 ≤ length ws
+  has-node = omega (arith, front-length ws (s .tree) (s .front), length-encode (s .tree), nodes-pos (s .tree))
+
+  pub has-kind : 0 < length ws
+  has-kind = omega (arith, has-node)
+
+  pub has-operand : 1 < length ws
+  has-operand = omega (arith, has-node)
+
+  -- the words left fall with each call
+  pub child-falls : (m : ℕ) → length ws ≡ m → length (tail 2 ws) < m
+  child-falls m e = omega (arith, has-node, length-tail 2 ws)
+
+  pub right-falls : (n m : ℕ) → length ws ≡ m → length (tail n (tail 2 ws)) < m
+  right-falls n m e = omega (arith, has-node, length-tail n (tail 2 ws), length-tail 2 ws)
+
+  module _ (a : Arity) (e : arityOutcome a ≡ arityOf (getD ws 0 0)) where
+    pub child-starts : a ≡ One → Starts (tail 2 ws)
+    child-starts g = let n = unary-node ws a e (s .tree) g (s .front) in record { tree = n .child; front = n .below }
+
+    module _ (g : a ≡ Two) where
+      here : BinaryNode ws (s .tree)
+      here = binary-node ws a e (s .tree) g (s .front)
+
+      pub left-starts : Starts (tail 2 ws)
+      left-starts = record { tree = here .left; front = here .left-below }
+
+      module _ (n : ℕ) (l : Spans (tail 2 ws) n) where
+        pub right-starts : Starts (tail n (tail 2 ws))
+        right-starts = record {
+          tree = here .right;
+          front = subst (λ (i : ℕ). Front (tail i (tail 2 ws)) (here .right)) (sym (l .spans (here .left) (here .left-below))) (here .right-below);
+        }
+
+        pub left-within : n ≤ length (tail 2 ws)
+        left-within = omega (arith, l .spans (here .left) (here .left-below), front-length (tail 2 ws) (here .left) (here .left-below))
+
+-- ---- how many words the tree takes
+
+module _ (ws : List ℕ) (a : Arity) (e : arityOutcome a ≡ arityOf (getD ws 0 0)) where
+  pub leaf-spans : a ≡ Zero → Spans ws 2
+  unfolding encode
+  leaf-spans g = record { spans = λ t f. ap (λ (u : Expr). length (encode u)) (sym (leaf-node ws a e t g f .is)) }
+
+  module _ (n : ℕ) (s : Spans (tail 2 ws) n) where
+    pub unary-spans : a ≡ One → Spans ws (n + 2)
+    unfolding encode
+    unary-spans g = record { spans = λ t f.
+      let u = unary-node ws a e t g f in
+      omega (arith, s .spans (u .child) (u .below), ap (λ (v : Expr). length (encode v)) (u .is)) }
+
+    -- what the right child is, where the left one's words end
+    module _ (g : a ≡ Two) (t : Expr) (f : Front ws t) where
+      pub right-front : Front (tail n (tail 2 ws)) (binary-node ws a e t g f .right)
+      right-front =
+          let b = binary-node ws a e t g f in
+          subst (λ (i : ℕ). Front (tail i (tail 2 ws)) (b .right)) (sym (s .spans (b .left) (b .left-below))) (b .right-below)
+
+    module _ (m : ℕ) (r : Spans (tail n (tail 2 ws)) m) (g : a ≡ Two) where
+      pub binary-spans : Spans ws (n + m + 2)
+      unfolding encode
+      binary-spans = record { spans = λ t f.
+        let b = binary-node ws a e t g f in
+        omega (arith, s .spans (b .left) (b .left-below), r .spans (b .right) (right-front g t f),
+        ap (λ (v : Expr). length (encode v)) (b .is), length-append (encode (b .left)) (encode (b .right))) }
+
+-- the number of words that a tree takes fits in a word, as they are in the lent list
+module _ (ws : List ℕ) (s : Starts ws) (h : length ws < 2 ^ 64) where
+  taken : (n : ℕ) → Spans ws n → n ≤ length ws
+  taken n p = omega (arith, p .spans (s .tree) (s .front), front-length ws (s .tree) (s .front))
+
+  module _ (a : Arity) (e : arityOutcome a ≡ arityOf (getD ws 0 0)) (n : ℕ) (l : Spans (tail 2 ws) n) where
+    pub unary-fits : a ≡ One → Fits w64 (n + 2)
+    unary-fits g = omega (arith, taken (n + 2) (unary-spans ws a e n l g))
+
+    module _ (g : a ≡ Two) (m : ℕ) (r : Spans (tail n (tail 2 ws)) m) where
+      pub both-fit : Fits w64 (n + m)
+      both-fit = omega (arith, taken (n + m + 2) (binary-spans ws a e n l m r g))
+
+      pub binary-fits : Fits w64 (n + m + 2)
+      binary-fits = omega (arith, taken (n + m + 2) (binary-spans ws a e n l m r g))
+
+pub right-scaled : (ws : List ℕ) (s : Starts ws) (a : Arity) → arityOutcome a ≡ arityOf (getD ws 0 0) → a ≡ Two
+    → (n : ℕ) → Spans (tail 2 ws) n → length ws * 8 < 2 ^ 63 → Fits w64 (n * 8)
+right-scaled ws s a e g n l h = omega (arith, left-within ws s a e g n l, length-tail 2 ws)
+
+-- what every need of a call on a child's part is found by
+pub ruleset walk = (has-node, has-kind, has-operand, child-falls, right-falls, child-starts, left-starts, right-starts, left-within, leaf-spans, unary-spans, binary-spans, unary-fits, both-fit, binary-fits, right-scaled, no-refused)
+
+-- ---- a whole list of words, once it is checked
+
+module _ (ws : List ℕ) (x : Counted) (e : countedOutcome x ≡ mapped nodes (parse ws)) where
+  module _ (n : ℕ) (g : x ≡ counted.Count n) where
+    tree-is : Made nodes (parse ws) n
+    tree-is = mapped-made nodes (parse ws) (ap countedOutcome (sym g) ∙ e)
+
+    whole-front : Front ws (tree-is .answer)
+    whole-front =
+        let a = parse-sound ws (tree-is .answer) (tree-is .was) in
+        record { rest = []; words = a .words ∙ sym (append-nil (encode (tree-is .answer))); operands = a .valid .operands }
+
+    pub whole-starts : Starts ws
+    whole-starts = record { tree = tree-is .answer; front = whole-front }
+
+    pub whole-short : length ws ≤ 1024
+    whole-short =
+        let a = parse-sound ws (tree-is .answer) (tree-is .was) in
+        omega (arith, ap length (a .words), length-encode (tree-is .answer), a .valid .count)
+
+  module _ {A : Type 0} where
+    -- what is answered of the tree at the front is answered of the tree that the words are; a refusal is handed on
+    pub answered : (f : Expr → A) (n : ℕ) (y : A) → x ≡ counted.Count n → ((t : Expr) → Front ws t → y ≡ f t) → accepted y ≡ mapped f (parse ws)
+    answered f n y g h = ap accepted (h (tree-is n g .answer) (whole-front n g)) ∙ sym (mapped-accepted (tree-is n g .was) f)
+
+    pub turned-down : (f : Expr → A) (r : Refusal) → x ≡ counted.Refused r → refused (reasonOf r) ≡ mapped f (parse ws)
+    turned-down f r g = refused-mapped nodes f (parse ws) (ap countedOutcome (sym g) ∙ e)
+
+    pub then-answered : (f : Expr → Outcome A) (n : ℕ) (y : Outcome A) → x ≡ counted.Count n → ((t : Expr) → Front ws t → y ≡ f t) → y ≡ (parse ws andThen f)
+    then-answered f n y g h = h (tree-is n g .answer) (whole-front n g) ∙ sym (then-accepted (tree-is n g .was) f)
+
+    pub then-turned-down : (f : Expr → Outcome A) (r : Refusal) → x ≡ counted.Refused r → refused (reasonOf r) ≡ (parse ws andThen f)
+    then-turned-down f r g = go (parse ws) (ap countedOutcome (sym g) ∙ e)
+      where
+        go : (o : Outcome Expr) → refused (reasonOf r) ≡ mapped nodes o → refused (reasonOf r) ≡ (o andThen f)
+        go (refused q) i = ap refused (cc)
+        go (accepted t) i = absurd (let z : _≡_ {A = ℕ} 0 1 = cc in omega arith)
