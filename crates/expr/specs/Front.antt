@@ -21,3 +21,12 @@ pub record Starts (ws : List ℕ) : Type 0 where
 -- the tree that the words begin with takes n of them
 pub record Spans (ws : List ℕ) (n : ℕ) : Type 0 where
   pub spans : (t : Expr) → Front ws t → n ≡ length (encode t)
+
+-- a walk has read the tree that the words begin with: it takes n of them, and P holds of it
+pub record Read (ws : List ℕ) (n : ℕ) (P : Expr → Type 0) : Type 0 where
+  pub spans : Spans ws n
+  pub holds : (t : Expr) → Front ws t → P t
+
+-- f gives y for the tree
+pub record Gives {A : Type 0} (f : Expr → A) (y : A) (t : Expr) : Type 0 where
+  pub is : y ≡ f t

@@ -25,7 +25,7 @@ use Rattle.expr.specs.Parse.{Kind, none, one, two, arity, arityOf, opera
 use Rattle.expr.specs.ParseLaws.{parse-sound}
 use Rattle.expr.specs.KindLaws.{number, number-arity}
 use Rattle.expr.specs.Answers.{arityOutcome, countedOutcome}
-use Rattle.expr.specs.Front.{Front, Starts, Spans}
+use Rattle.expr.specs.Front.{Front, Starts, Spans, Read, Gives}
 use Rattle.expr.specs.TailLaws.{tail, tail-drop, length-tail}
 
 -- ---- the tree at the front
@@ -109,13 +109,10 @@ module _ (ws : List ℕ) (a : Arity) (e : arityOutcome a ≡ arityOf (getD ws 0 
   told : (t : Expr) → Front ws t → arityOutcome a ≡ accepted (arity (rootOf t))
   told t f = e ∙ ap arityOf (first-word ws t f) ∙ number-arity (rootOf t)
 
-  -- and so a tree of another kind is not at the front
+  -- no tree of another kind is at the front
   module _ {A : Type 0} (t : Expr) (f : Front ws t) where
     apart : (n : ℕ) → arityOutcome a ≡ accepted n → (n ≡ arity (rootOf t) → ⊥) → A
     apart n g h = absurd (h (let z = told t f in cc))
-
-    pub no-refused : (r : Refusal) → a ≡ Refused r → A
-    no-refused r g = absurd (let z = told t f in let h = ap arityOutcome g in let y : _≡_ {A = ℕ} 0 1 = cc in omega arith)
 
   pub leaf-node : (t : Expr) → a ≡ Zero → Front ws t → LeafNode ws t
   unfolding encode operandsOk
@@ -248,39 +245,49 @@ pub right-scaled : (ws : List ℕ) (s : Starts ws) (a : Arity) → arityOutcome 
     → (n : ℕ) → Spans (tail 2 ws) n → length ws * 8 < 2 ^ 63 → Fits w64 (n * 8)
 right-scaled ws s a e g n l h = omega (arith, left-within ws s a e g n l, length-tail 2 ws)
 
+-- a tree's first word is the number of a kind, so a walk does not come to the arm of a refused one
+pub no-kind : (ws : List ℕ) (a : Arity) → arityOutcome a ≡ arityOf (getD ws 0 0) → Starts ws → (r : Refusal) → a ≡ Refused r → (n : ℕ) (P : Expr → Type 0) → Read ws n P
+no-kind ws a e s r g n P = absurd (let z = told ws a e (s .tree) (s .front) in let h = ap arityOutcome g in let y : _≡_ {A = ℕ} 0 1 = cc in omega arith)
+
 -- what every need of a call on a child's part is found by
-pub ruleset walk = (has-node, has-kind, has-operand, child-falls, right-falls, child-starts, left-starts, right-starts, left-within, leaf-spans, unary-spans, binary-spans, unary-fits, both-fit, binary-fits, right-scaled, no-refused)
+pub ruleset walk = (has-node, has-kind, has-operand, child-falls, right-falls, child-starts, left-starts, right-starts, left-within, leaf-spans, unary-spans, binary-spans, unary-fits, both-fit, binary-fits, right-scaled, no-kind)
 
 -- ---- a whole list of words, once it is checked
 
+-- the words are those of a tree
+pub record Whole (ws : List ℕ) : Type 0 where
+  pub tree : Expr
+  pub is : parse ws ≡ accepted tree
+  pub front : Front ws tree
+  pub short : length ws ≤ 1024
+
 module _ (ws : List ℕ) (x : Counted) (e : countedOutcome x ≡ mapped nodes (parse ws)) where
   module _ (n : ℕ) (g : x ≡ counted.Count n) where
-    tree-is : Made nodes (parse ws) n
-    tree-is = mapped-made nodes (parse ws) (ap countedOutcome (sym g) ∙ e)
-
-    whole-front : Front ws (tree-is .answer)
-    whole-front =
-        let a = parse-sound ws (tree-is .answer) (tree-is .was) in
-        record { rest = []; words = a .words ∙ sym (append-nil (encode (tree-is .answer))); operands = a .valid .operands }
+    pub whole : Whole ws
+    whole =
+        let m : Made nodes (parse ws) n = mapped-made nodes (parse ws) (ap countedOutcome (sym g) ∙ e) in
+        let a = parse-sound ws (m .answer) (m .was) in
+        record {
+          tree = m .answer;
+          is = m .was;
+          front = record { rest = []; words = a .words ∙ sym (append-nil (encode (m .answer))); operands = a .valid .operands };
+          short = omega (arith, ap length (a .words), length-encode (m .answer), a .valid .count);
+        }
 
     pub whole-starts : Starts ws
-    whole-starts = record { tree = tree-is .answer; front = whole-front }
+    whole-starts = record { tree = whole .tree; front = whole .front }
 
     pub whole-short : length ws ≤ 1024
-    whole-short =
-        let a = parse-sound ws (tree-is .answer) (tree-is .was) in
-        omega (arith, ap length (a .words), length-encode (tree-is .answer), a .valid .count)
+    whole-short = whole .short
 
   module _ {A : Type 0} where
-    -- what is answered of the tree at the front is answered of the tree that the words are; a refusal is handed on
-    pub answered : (f : Expr → A) (n : ℕ) (y : A) → x ≡ counted.Count n → ((t : Expr) → Front ws t → y ≡ f t) → accepted y ≡ mapped f (parse ws)
-    answered f n y g h = ap accepted (h (tree-is n g .answer) (whole-front n g)) ∙ sym (mapped-accepted (tree-is n g .was) f)
+    -- what a walk has answered of the tree at the front is the answer for the words
+    pub answered : (f : Expr → A) (n m : ℕ) (y : A) → x ≡ counted.Count n → Read ws m (Gives f y) → accepted y ≡ mapped f (parse ws)
+    answered f n m y g h = ap accepted (h .holds (whole n g .tree) (whole n g .front) .is) ∙ sym (mapped-accepted (whole n g .is) f)
 
+    -- a refusal is handed on
     pub turned-down : (f : Expr → A) (r : Refusal) → x ≡ counted.Refused r → refused (reasonOf r) ≡ mapped f (parse ws)
     turned-down f r g = refused-mapped nodes f (parse ws) (ap countedOutcome (sym g) ∙ e)
-
-    pub then-answered : (f : Expr → Outcome A) (n : ℕ) (y : Outcome A) → x ≡ counted.Count n → ((t : Expr) → Front ws t → y ≡ f t) → y ≡ (parse ws andThen f)
-    then-answered f n y g h = h (tree-is n g .answer) (whole-front n g) ∙ sym (then-accepted (tree-is n g .was) f)
 
     pub then-turned-down : (f : Expr → Outcome A) (r : Refusal) → x ≡ counted.Refused r → refused (reasonOf r) ≡ (parse ws andThen f)
     then-turned-down f r g = go (parse ws) (ap countedOutcome (sym g) ∙ e)

@@ -1,0 +1,4 @@
+pub mod WidthLaws
+pub mod NodeLaws
+pub mod WalkLaws
+pub mod UniformLaws

@@ -1,0 +1,101 @@
+-- What the walk finds of a node, from what it has found of the children. Assumes nothing.
+use mathlib.Core.Path.{_≡_, refl, sym, ap, ap₂, _∙_}
+use mathlib.Core.Bool.{Bool, true, false}
+use mathlib.Core.List.{List}
+use Prim.Native.Nat.{ℕ}
+use native.Mathlib.Omega.{arith}
+use Rattle.expr.specs.declared.refusal.Reason.{Reason}
+use Rattle.expr.specs.declared.refusal.Refusal.{Refusal}
+use Rattle.expr.specs.Refusals.{reasonOf}
+use Rattle.expr.specs.Outcome.{Outcome, refused, accepted, _andThen_}
+use Rattle.expr.specs.OutcomeLaws.{then-accepted, then-refused}
+use Rattle.expr.specs.Expr.{Leaf, Unary, Binary, Expr, leaf, unary, binary, leafNumber, leafOperand, unaryNumber, unaryOperand, binaryNumber}
+use Rattle.width.specs.declared.Widths.{Widths}
+use Rattle.width.specs.declared.Validity.{Validity}
+use Rattle.width.specs.declared.Validity.the-variants.{Valid, Refused}
+use Rattle.width.specs.Width.{carrying, supported, ranged, valid, unaryWidth, binaryWidth, checkedWidthOf, unaryRule, binaryRule, validateWidths}
+use Rattle.width.specs.Answers.{validityOutcome, WidthsOf}
+
+-- the first of two refusals
+module _ (a : Validity) where
+  pub first-refused : (r : Refusal) (f : Unit → Outcome Unit) → a ≡ Refused r → refused (reasonOf r) ≡ (validityOutcome a andThen f)
+  first-refused r f e = sym (ap (λ (x : Validity). validityOutcome x andThen f) e)
+
+  pub first-valid : (o : Outcome Unit) → a ≡ Valid → o ≡ (validityOutcome a andThen (λ v. o))
+  first-valid o e = sym (ap (λ (x : Validity). validityOutcome x andThen (λ v. o)) e)
+
+pub leaf-widths : (widths : List ℕ) (d kind operand : ℕ) (k : Leaf) (w : ℕ) (v : Validity) → kind ≡ leafNumber k → operand ≡ leafOperand k
+    → ((j : Leaf) → kind ≡ leafNumber j → operand ≡ leafOperand j → ranged w ≡ checkedWidthOf widths d (leaf j))
+    → validityOutcome v ≡ (ranged w andThen (λ x. valid)) → WidthsOf widths d (record { width = w; validity = v }) (leaf k)
+unfolding validateWidths
+leaf-widths widths d kind operand k w v e f g h = record { width-is = g k e f; validity-is = h ∙ ap (λ (o : Outcome ℕ). o andThen (λ x. valid)) (g k e f) }
+
+-- where the widths of a tree are consistent, it has one
+module _ (widths : List ℕ) (d : ℕ) where
+  own-first : (t : Expr) {r : Reason} → checkedWidthOf widths d t ≡ refused r → validateWidths widths d t ≡ refused r
+  unfolding validateWidths
+  own-first (leaf k) e = then-refused e _
+  own-first (unary k t) e = then-refused e _
+  own-first (binary k l r) e = then-refused e _
+
+  valid-width : (t : Expr) (w : ℕ) {u : Unit} → validateWidths widths d t ≡ accepted u → ranged w ≡ checkedWidthOf widths d t → accepted w ≡ checkedWidthOf widths d t
+  unfolding ranged
+  valid-width t w e f = go (supported w) refl
+    where
+      go : (b : Bool) → supported w ≡ b → accepted w ≡ checkedWidthOf widths d t
+      go true g = (let s : accepted w ≡ ranged w = rw g in s) ∙ f
+      go false g = absurd (let s : refused (carrying 10 w 0) ≡ ranged w = rw g in let h = own-first t (sym (s ∙ f)) in let z : _≡_ {A = ℕ} 0 1 = cc in omega arith)
+
+  -- what is asked of a tree's width, once its widths are consistent
+  asked : (t : Expr) (w : ℕ) (f : Outcome ℕ → Outcome Unit) → ranged w ≡ checkedWidthOf widths d t
+      → (validateWidths widths d t andThen (λ v. f (accepted w))) ≡ (validateWidths widths d t andThen (λ v. f (checkedWidthOf widths d t)))
+  asked t w f e = go (validateWidths widths d t) refl
+    where
+      go : (x : Outcome Unit) → validateWidths widths d t ≡ x → (x andThen (λ v. f (accepted w))) ≡ (x andThen (λ v. f (checkedWidthOf widths d t)))
+      go (refused r) g = refl
+      go (accepted u) g = ap f (valid-width t w g e)
+
+-- the node's own width, and then what is below it
+own-then : (o : Outcome ℕ) (below : Outcome Unit) → ((o andThen (λ w. valid)) andThen (λ v. below)) ≡ (o andThen (λ w. below))
+own-then (refused r) below = refl
+own-then (accepted w) below = refl
+
+module _ (widths : List ℕ) (d kind w : ℕ) (v : Validity) (own below rule : Outcome Unit)
+    (q : validityOutcome v ≡ (own andThen (λ x. below))) (p : own ≡ (ranged w andThen (λ x. valid))) where
+  node-valid : (t : Expr) (o : Outcome Unit) → ranged w ≡ checkedWidthOf widths d t → below ≡ o → validityOutcome v ≡ (checkedWidthOf widths d t andThen (λ x. o))
+  node-valid t o e f =
+      q ∙ ap (λ (y : Outcome Unit). y andThen (λ x. below)) p ∙ own-then (ranged w) (below)
+      ∙ ap₂ (λ (y : Outcome ℕ) (z : Outcome Unit). y andThen (λ x. z)) e f
+
+  pub unary-widths : (operand : ℕ) (child : Widths) (k : Unary) (t : Expr) → kind ≡ unaryNumber k → operand ≡ unaryOperand k → WidthsOf widths d child t
+      → below ≡ (validityOutcome (child .validity) andThen (λ x. rule))
+      → ((j : Unary) → kind ≡ unaryNumber j → operand ≡ unaryOperand j → ranged w ≡ (unaryWidth j (ranged (child .width)) andThen ranged))
+      → ((j : Unary) → kind ≡ unaryNumber j → operand ≡ unaryOperand j → rule ≡ unaryRule j (accepted (child .width)))
+      → WidthsOf widths d (record { width = w; validity = v }) (unary k t)
+  unfolding checkedWidthOf validateWidths
+  unary-widths operand child k t e f c i g h =
+      let own-is : ranged w ≡ checkedWidthOf widths d (unary k t) = g k e f ∙ ap (λ (o : Outcome ℕ). unaryWidth k o andThen ranged) (c .width-is) in
+      record {
+        width-is = own-is;
+        validity-is = node-valid (unary k t) (validateWidths widths d t andThen (λ x. unaryRule k (checkedWidthOf widths d t))) own-is
+          (i ∙ ap₂ (λ (y z : Outcome Unit). y andThen (λ x. z)) (c .validity-is) (h k e f) ∙ asked widths d t (child .width) (unaryRule k) (c .width-is));
+      }
+
+  pub binary-widths : (after : Outcome Unit) (left right : Widths) (k : Binary) (t u : Expr) → kind ≡ binaryNumber k → WidthsOf widths d left t → WidthsOf widths d right u
+      → below ≡ (validityOutcome (left .validity) andThen (λ x. after))
+      → after ≡ (validityOutcome (right .validity) andThen (λ x. rule))
+      → ((j : Binary) → kind ≡ binaryNumber j → ranged w ≡ (binaryWidth j (ranged (left .width)) (ranged (right .width)) andThen ranged))
+      → ((j : Binary) → kind ≡ binaryNumber j → rule ≡ binaryRule j (accepted (left .width)) (accepted (right .width)))
+      → WidthsOf widths d (record { width = w; validity = v }) (binary k t u)
+  unfolding checkedWidthOf validateWidths
+  binary-widths after left right k t u e a b j i g h =
+      let own-is : ranged w ≡ checkedWidthOf widths d (binary k t u) =
+        g k e ∙ ap₂ (λ (x y : Outcome ℕ). binaryWidth k x y andThen ranged) (a .width-is) (b .width-is) in
+      let after-is : after ≡ (validateWidths widths d u andThen (λ x. binaryRule k (accepted (left .width)) (checkedWidthOf widths d u))) =
+        i ∙ ap₂ (λ (y z : Outcome Unit). y andThen (λ x. z)) (b .validity-is) (h k e) ∙ asked widths d u (right .width) (binaryRule k (accepted (left .width))) (b .width-is) in
+      record {
+        width-is = own-is;
+        validity-is = node-valid (binary k t u) _ own-is
+          (j ∙ ap₂ (λ (y z : Outcome Unit). y andThen (λ x. z)) (a .validity-is) after-is
+          ∙ asked widths d t (left .width) (λ o. validateWidths widths d u andThen (λ x. binaryRule k o (checkedWidthOf widths d u))) (a .width-is));
+      }

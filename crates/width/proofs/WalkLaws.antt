@@ -1,0 +1,91 @@
+-- What the walks have found of the tree at the front of the words. Assumes nothing.
+use mathlib.Core.Path.{_≡_, sym, ap, subst, _∙_}
+use mathlib.Core.Bool.{Bool, true, false, not, _&&_}
+use mathlib.Core.List.{List}
+use Prim.Native.Nat.{ℕ, _≤_, _<_}
+use native.Mathlib.Omega.{arith}
+use lib.Dec.{T, leb→le, eqb→eq}
+use lib.ListN.{getD}
+use mir.Syntax.{w32}
+use mir.Val.{Fits}
+use Rattle.expr.specs.declared.Arity.{Arity}
+use Rattle.expr.specs.declared.Arity.the-variants.{Zero, One, Two}
+use Rattle.expr.specs.declared.Counted.{Counted}
+use Rattle.expr.specs.declared.Counted.the-variants.{Count}
+use Rattle.expr.specs.Outcome.{Outcome, refused, accepted, mapped, _andThen_}
+use Rattle.expr.specs.OutcomeLaws.{then-accepted, mapped-accepted}
+use Rattle.expr.specs.Expr.{Leaf, Unary, Not, Neg, Shr, ZExt, SExt, Trunc, Binary, Add, Mul, And, Or, Xor, Concat, Expr, leaf, unary, binary, nodes, leafNumber, leafOperand, unaryNumber, unaryOperand, binaryNumber}
+use Rattle.expr.specs.Parse.{arityOf, operandOk, parse}
+use Rattle.expr.specs.Answers.{arityOutcome, countedOutcome}
+use Rattle.expr.specs.Front.{Front, Starts, Read}
+use Rattle.expr.specs.TailLaws.{tail}
+use Rattle.expr.specs.FrontLaws.{leaf-node, unary-node, binary-node, right-front, Whole, whole}
+use Rattle.width.specs.declared.Widths.{Widths}
+use Rattle.width.specs.Width.{carrying, supported, ranged, checkedWidthOf, orZero, widthOf, validateWidths, isUniformWidth}
+use Rattle.width.specs.Answers.{validityOutcome, WidthsOf}
+use Rattle.width.proofs.WidthLaws.{ranged-yes, ranged-no}
+
+-- the operand of a node with one child has 32 bits
+unary-operand : (k : Unary) → T (operandOk (unaryNumber k) (unaryOperand k)) → unaryOperand k ≤ 4294967295
+unfolding operandOk
+unary-operand Not h = omega arith
+unary-operand Neg h = omega arith
+unary-operand (Shr n) h = leb→le n 4294967295 h
+unary-operand (ZExt n) h = leb→le n 4294967295 h
+unary-operand (SExt n) h = leb→le n 4294967295 h
+unary-operand (Trunc n) h = leb→le n 4294967295 h
+
+module _ (ws : List ℕ) (a : Arity) (e : arityOutcome a ≡ arityOf (getD ws 0 0)) where
+  pub operand-fits : Starts ws → a ≡ One → Fits w32 (getD ws 1 0)
+  operand-fits s g = let n = unary-node ws a e (s .tree) g (s .front) in omega (arith, n .operand-is, unary-operand (n .kind) (n .in-range))
+
+  module _ (widths : List ℕ) (d : ℕ) (t : Expr) (f : Front ws t) (found : Widths) where
+    pub leaf-found : a ≡ Zero → ((k : Leaf) → getD ws 0 0 ≡ leafNumber k → getD ws 1 0 ≡ leafOperand k → WidthsOf widths d found (leaf k)) → WidthsOf widths d found t
+    leaf-found g h = let n = leaf-node ws a e t g f in subst (WidthsOf widths d found) (sym (n .is)) (h (n .kind) (n .number-is) (n .operand-is))
+
+    pub unary-found : (m : ℕ) (child : Widths) → a ≡ One → Read (tail 2 ws) m (WidthsOf widths d child)
+        → ((vs : List ℕ) (n : ℕ) (k : Unary) (u : Expr) → getD ws 0 0 ≡ unaryNumber k → getD ws 1 0 ≡ unaryOperand k → WidthsOf vs n child u → WidthsOf vs n found (unary k u))
+        → WidthsOf widths d found t
+    unary-found m child g h i =
+        let n = unary-node ws a e t g f in
+        subst (WidthsOf widths d found) (sym (n .is)) (i widths d (n .kind) (n .child) (n .number-is) (n .operand-is) (h .holds (n .child) (n .below)))
+
+    pub binary-found : (l m : ℕ) (left right : Widths) → a ≡ Two → Read (tail 2 ws) l (WidthsOf widths d left) → Read (tail l (tail 2 ws)) m (WidthsOf widths d right)
+        → ((vs : List ℕ) (n : ℕ) (k : Binary) (u v : Expr) → getD ws 0 0 ≡ binaryNumber k → WidthsOf vs n left u → WidthsOf vs n right v → WidthsOf vs n found (binary k u v))
+        → WidthsOf widths d found t
+    binary-found l m left right g h i j =
+        let b = binary-node ws a e t g f in
+        subst (WidthsOf widths d found) (sym (b .is))
+        (j widths d (b .kind) (b .left) (b .right) (b .number-is) (h .holds (b .left) (b .left-below)) (i .holds (b .right) (right-front ws a e l (h .spans) g t f)))
+
+-- ---- what the calls answer
+
+module _ (ws widths : List ℕ) (d n m : ℕ) (x : Counted) (found : Widths) (e : countedOutcome x ≡ mapped nodes (parse ws)) (g : x ≡ Count n) (h : Read ws m (WidthsOf widths d found)) where
+  here : Whole ws
+  here = whole ws x e n g
+
+  of-tree : WidthsOf widths d found (here .tree)
+  of-tree = h .holds (here .tree) (here .front)
+
+  checked-is : ranged (found .width) ≡ (parse ws andThen checkedWidthOf widths d)
+  checked-is = of-tree .width-is ∙ sym (then-accepted (here .is) (checkedWidthOf widths d))
+
+  pub validity-answered : validityOutcome (found .validity) ≡ (parse ws andThen validateWidths widths d)
+  validity-answered = of-tree .validity-is ∙ sym (then-accepted (here .is) (validateWidths widths d))
+
+  module _ (b : Bool) (i : b ≡ supported (found .width)) where
+    pub width-refused : not b ≡ true → refused (carrying 10 (found .width) 0) ≡ (parse ws andThen checkedWidthOf widths d)
+    width-refused j = sym (ranged-no (found .width) b i j) ∙ checked-is
+
+    pub width-answered : not b ≡ false → accepted (found .width) ≡ (parse ws andThen checkedWidthOf widths d)
+    width-answered j = sym (ranged-yes (found .width) b i j) ∙ checked-is
+
+    width-is : (o : Outcome ℕ) → ranged (found .width) ≡ o → accepted (orZero o) ≡ mapped (widthOf widths d) (parse ws)
+    unfolding widthOf
+    width-is o j = ap (λ (p : Outcome ℕ). accepted (orZero p)) (sym j ∙ of-tree .width-is) ∙ sym (mapped-accepted (here .is) (widthOf widths d))
+
+    pub width-none : not b ≡ true → accepted 0 ≡ mapped (widthOf widths d) (parse ws)
+    width-none j = width-is (refused (carrying 10 (found .width) 0)) (ranged-no (found .width) b i j)
+
+    pub width-some : not b ≡ false → accepted (found .width) ≡ mapped (widthOf widths d) (parse ws)
+    width-some j = width-is (accepted (found .width)) (ranged-yes (found .width) b i j)

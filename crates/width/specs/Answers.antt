@@ -1,0 +1,28 @@
+-- What an answer of a width call stands for: a refusal by its number and values, or the answer. Definitions only.
+use mathlib.Core.Path.{_≡_}
+use mathlib.Core.List.{List}
+use Prim.Native.Nat.{ℕ}
+use Rattle.expr.specs.Refusals.{reasonOf}
+use Rattle.expr.specs.Outcome.{Outcome, refused, accepted}
+use Rattle.expr.specs.Expr.{Expr}
+use Rattle.width.specs.Width.{ranged, valid, checkedWidthOf, validateWidths}
+use Rattle.width.specs.declared.Widths.{Widths}
+use Rattle.width.specs.declared.WidthAnswer.{WidthAnswer}
+use Rattle.width.specs.declared.WidthAnswer.the-variants as width
+use Rattle.width.specs.declared.Validity.{Validity}
+use Rattle.width.specs.declared.Validity.the-variants as validity
+
+-- a width
+abbrev pub widthOutcome : WidthAnswer → Outcome ℕ
+widthOutcome (width.Width w) = accepted w
+widthOutcome (width.Refused r) = refused (reasonOf r)
+
+-- that the widths are consistent
+abbrev pub validityOutcome : Validity → Outcome Unit
+validityOutcome validity.Valid = valid
+validityOutcome (validity.Refused r) = refused (reasonOf r)
+
+-- what the walk finds of a tree is its width and whether its widths are consistent
+pub record WidthsOf (widths : List ℕ) (default : ℕ) (found : Widths) (t : Expr) : Type 0 where
+  pub width-is : ranged (found .width) ≡ checkedWidthOf widths default t
+  pub validity-is : validityOutcome (found .validity) ≡ validateWidths widths default t
