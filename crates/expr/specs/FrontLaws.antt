@@ -18,7 +18,7 @@ use Rattle.expr.specs.declared.Counted.{Counted}
 use Rattle.expr.specs.declared.Counted.the-variants as counted
 use Rattle.expr.specs.Refusals.{reasonOf}
 use Rattle.expr.specs.Outcome.{Outcome, refused, accepted, mapped, _andThen_}
-use Rattle.expr.specs.OutcomeLaws.{then-accepted, then-refused, mapped-accepted, Made, mapped-made, refused-mapped}
+use Rattle.expr.specs.OutcomeLaws.{mapped-accepted, Made, mapped-made, refused-mapped, refused-then}
 use Rattle.expr.specs.Expr.{Leaf, Unary, Binary, Expr, leaf, unary, binary, leafNumber, leafOperand, unaryNumber, unaryOperand, binaryNumber, encode, nodes}
 use Rattle.expr.specs.ExprLaws.{nodes-pos, length-encode}
 use Rattle.expr.specs.Parse.{Kind, none, one, two, arity, arityOf, operandOk, operandsOk, parse}
@@ -254,44 +254,34 @@ pub ruleset walk = (has-node, has-kind, has-operand, child-falls, right-falls, c
 
 -- ---- a whole list of words, once it is checked
 
+pub parse-front : (ws : List ℕ) (t : Expr) → parse ws ≡ accepted t → Front ws t
+parse-front ws t e =
+    let a = parse-sound ws t e in
+    record { rest = []; words = a .words ∙ sym (append-nil (encode t)); operands = a .valid .operands }
+
 -- the words are those of a tree
 pub record Whole (ws : List ℕ) : Type 0 where
   pub tree : Expr
   pub is : parse ws ≡ accepted tree
-  pub front : Front ws tree
-  pub short : length ws ≤ 1024
 
-module _ (ws : List ℕ) (x : Counted) (e : countedOutcome x ≡ mapped nodes (parse ws)) where
-  module _ (n : ℕ) (g : x ≡ counted.Count n) where
-    pub whole : Whole ws
-    whole =
-        let m : Made nodes (parse ws) n = mapped-made nodes (parse ws) (ap countedOutcome (sym g) ∙ e) in
-        let a = parse-sound ws (m .answer) (m .was) in
-        record {
-          tree = m .answer;
-          is = m .was;
-          front = record { rest = []; words = a .words ∙ sym (append-nil (encode (m .answer))); operands = a .valid .operands };
-          short = omega (arith, ap length (a .words), length-encode (m .answer), a .valid .count);
-        }
+module _ (ws : List ℕ) (x : Counted) (n : ℕ) (e : countedOutcome x ≡ mapped nodes (parse ws)) (g : x ≡ counted.Count n) where
+  pub whole : Whole ws
+  whole = let m : Made nodes (parse ws) n = mapped-made nodes (parse ws) (ap countedOutcome (sym g) ∙ e) in record { tree = m .answer; is = m .was }
 
-    pub whole-starts : Starts ws
-    whole-starts = record { tree = whole .tree; front = whole .front }
+  pub whole-starts : Starts ws
+  whole-starts = record { tree = whole .tree; front = parse-front ws (whole .tree) (whole .is) }
 
-    pub whole-short : length ws ≤ 1024
-    whole-short = whole .short
+  pub whole-short : length ws ≤ 1024
+  whole-short = let a = parse-sound ws (whole .tree) (whole .is) in omega (arith, ap length (a .words), length-encode (whole .tree), a .valid .count)
 
-  module _ {A : Type 0} where
-    -- what a walk has answered of the tree at the front is the answer for the words
-    pub answered : (f : Expr → A) (n m : ℕ) (y : A) → x ≡ counted.Count n → Read ws m (Gives f y) → accepted y ≡ mapped f (parse ws)
-    answered f n m y g h = ap accepted (h .holds (whole n g .tree) (whole n g .front) .is) ∙ sym (mapped-accepted (whole n g .is) f)
+  -- what a walk has answered of the tree at the front is the answer for the words
+  pub answered : {A : Type 0} (f : Expr → A) (m : ℕ) (y : A) → Read ws m (Gives f y) → accepted y ≡ mapped f (parse ws)
+  answered f m y h = ap accepted (h .holds (whole .tree) (parse-front ws (whole .tree) (whole .is)) .is) ∙ sym (mapped-accepted (whole .is) f)
 
-    -- a refusal is handed on
-    pub turned-down : (f : Expr → A) (r : Refusal) → x ≡ counted.Refused r → refused (reasonOf r) ≡ mapped f (parse ws)
-    turned-down f r g = refused-mapped nodes f (parse ws) (ap countedOutcome (sym g) ∙ e)
+-- a refusal is handed on
+module _ {A : Type 0} (o : Outcome Expr) (x : Counted) (r : Refusal) (e : countedOutcome x ≡ mapped nodes o) (g : x ≡ counted.Refused r) where
+  pub turned-down : (f : Expr → A) → refused (reasonOf r) ≡ mapped f o
+  turned-down f = refused-mapped nodes f o (ap countedOutcome (sym g) ∙ e)
 
-    pub then-turned-down : (f : Expr → Outcome A) (r : Refusal) → x ≡ counted.Refused r → refused (reasonOf r) ≡ (parse ws andThen f)
-    then-turned-down f r g = go (parse ws) (ap countedOutcome (sym g) ∙ e)
-      where
-        go : (o : Outcome Expr) → refused (reasonOf r) ≡ mapped nodes o → refused (reasonOf r) ≡ (o andThen f)
-        go (refused q) i = ap refused (cc)
-        go (accepted t) i = absurd (let z : _≡_ {A = ℕ} 0 1 = cc in omega arith)
+  pub then-turned-down : (f : Expr → Outcome A) → refused (reasonOf r) ≡ (o andThen f)
+  then-turned-down f = refused-then nodes f o (ap countedOutcome (sym g) ∙ e)

@@ -31,6 +31,10 @@ module _ {A B C : Type 0} where
   refused-mapped f g (refused s) e = ap refused (cc)
   refused-mapped f g (accepted a) e = absurd (let z : _≡_ {A = ℕ} 0 1 = cc in omega arith)
 
+  pub refused-then : (f : A → B) (g : A → Outcome C) (o : Outcome A) {r : Reason} → refused r ≡ mapped f o → refused r ≡ (o andThen g)
+  refused-then f g (refused s) e = ap refused (cc)
+  refused-then f g (accepted a) e = absurd (let z : _≡_ {A = ℕ} 0 1 = cc in omega arith)
+
   pub mapped-mapped : (f : B → C) (g : A → B) (h : A → C) → ((a : A) → f (g a) ≡ h a) → (o : Outcome A) → mapped f (mapped g o) ≡ mapped h o
   mapped-mapped f g h e (refused r) = refl
   mapped-mapped f g h e (accepted a) = ap accepted (e a)

@@ -1,4 +1,4 @@
-pub mod WidthLaws
+pub mod KindLaws
 pub mod NodeLaws
 pub mod WalkLaws
 pub mod UniformLaws

@@ -19,11 +19,11 @@ use Rattle.expr.specs.Parse.{arityOf, operandOk, parse}
 use Rattle.expr.specs.Answers.{arityOutcome, countedOutcome}
 use Rattle.expr.specs.Front.{Front, Starts, Read}
 use Rattle.expr.specs.TailLaws.{tail}
-use Rattle.expr.specs.FrontLaws.{leaf-node, unary-node, binary-node, right-front, Whole, whole}
+use Rattle.expr.specs.FrontLaws.{leaf-node, unary-node, binary-node, right-front, parse-front, Whole, whole}
 use Rattle.width.specs.declared.Widths.{Widths}
 use Rattle.width.specs.Width.{carrying, supported, ranged, checkedWidthOf, orZero, widthOf, validateWidths, isUniformWidth}
 use Rattle.width.specs.Answers.{validityOutcome, WidthsOf}
-use Rattle.width.proofs.WidthLaws.{ranged-yes, ranged-no}
+use Rattle.width.proofs.KindLaws.{ranged-yes, ranged-no}
 
 -- the operand of a node with one child has 32 bits
 unary-operand : (k : Unary) → T (operandOk (unaryNumber k) (unaryOperand k)) → unaryOperand k ≤ 4294967295
@@ -62,10 +62,10 @@ module _ (ws : List ℕ) (a : Arity) (e : arityOutcome a ≡ arityOf (getD ws 0 
 
 module _ (ws widths : List ℕ) (d n m : ℕ) (x : Counted) (found : Widths) (e : countedOutcome x ≡ mapped nodes (parse ws)) (g : x ≡ Count n) (h : Read ws m (WidthsOf widths d found)) where
   here : Whole ws
-  here = whole ws x e n g
+  here = whole ws x n e g
 
   of-tree : WidthsOf widths d found (here .tree)
-  of-tree = h .holds (here .tree) (here .front)
+  of-tree = h .holds (here .tree) (parse-front ws (here .tree) (here .is))
 
   checked-is : ranged (found .width) ≡ (parse ws andThen checkedWidthOf widths d)
   checked-is = of-tree .width-is ∙ sym (then-accepted (here .is) (checkedWidthOf widths d))

@@ -1,2 +1,3 @@
 pub mod Width
 pub mod Answers
+pub mod WidthLaws

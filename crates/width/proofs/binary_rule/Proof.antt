@@ -1,6 +1,6 @@
 -- `width::binary_rule` meets its contract. Assumes nothing.
 use borrow.Author.Needs.{needs}
-use Rattle.width.proofs.WidthLaws.{concat-free, widths-differ, widths-agree}
+use Rattle.width.proofs.KindLaws.{concat-free, widths-differ, widths-agree}
 use Rattle.width.proofs.binary_rule.Statement.{statement}
 use Rattle.width.proofs.binary_rule.Tie as tie
 

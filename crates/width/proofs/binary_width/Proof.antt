@@ -1,6 +1,6 @@
 -- `width::binary_width` meets its contract. Assumes nothing.
 use borrow.Author.Needs.{needs}
-use Rattle.width.proofs.WidthLaws.{concat-width, left-width}
+use Rattle.width.proofs.KindLaws.{concat-width, left-width}
 use Rattle.width.proofs.binary_width.Statement.{statement}
 use Rattle.width.proofs.binary_width.Tie as tie
 

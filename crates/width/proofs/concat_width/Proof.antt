@@ -1,6 +1,6 @@
 -- `width::concat_width` meets its contract. Assumes nothing.
 use borrow.Author.Needs.{needs}
-use Rattle.width.proofs.WidthLaws.{concat-left, concat-right, concat-sum, sum-fits}
+use Rattle.width.proofs.KindLaws.{concat-left, concat-right, concat-sum, sum-fits}
 use Rattle.width.proofs.concat_width.Statement.{statement}
 use Rattle.width.proofs.concat_width.Tie as tie
 

@@ -1,6 +1,6 @@
 -- `width::is_supported` meets its contract. Assumes nothing.
 use borrow.Author.Needs.{needs}
-use Rattle.width.proofs.WidthLaws.{in-range, too-narrow, too-wide}
+use Rattle.width.specs.WidthLaws.{in-range, too-narrow, too-wide}
 use Rattle.width.proofs.is_supported.Statement.{statement}
 use Rattle.width.proofs.is_supported.Tie as tie
 

@@ -1,6 +1,6 @@
 -- `width::leaf_width` meets its contract. Assumes nothing.
 use borrow.Author.Needs.{needs}
-use Rattle.width.proofs.WidthLaws.{variable-leaf, constant-leaf}
+use Rattle.width.proofs.KindLaws.{variable-leaf, constant-leaf}
 use Rattle.width.proofs.leaf_width.Statement.{statement}
 use Rattle.width.proofs.leaf_width.Tie as tie
 

@@ -1,6 +1,6 @@
 -- `width::own_validity` meets its contract. Assumes nothing.
 use borrow.Author.Needs.{needs}
-use Rattle.width.proofs.WidthLaws.{own-refused, own-accepted}
+use Rattle.width.proofs.KindLaws.{own-refused, own-accepted}
 use Rattle.width.proofs.own_validity.Statement.{statement}
 use Rattle.width.proofs.own_validity.Tie as tie
 

@@ -1,6 +1,6 @@
 -- `width::unary_rule` meets its contract. Assumes nothing.
 use borrow.Author.Needs.{needs}
-use Rattle.width.proofs.WidthLaws.{no-rule, widening, truncation, narrowing, extension}
+use Rattle.width.proofs.KindLaws.{no-rule, widening, truncation, narrowing, extension}
 use Rattle.width.proofs.unary_rule.Statement.{statement}
 use Rattle.width.proofs.unary_rule.Tie as tie
 

@@ -1,6 +1,6 @@
 -- `width::unary_width` meets its contract. Assumes nothing.
 use borrow.Author.Needs.{needs}
-use Rattle.width.proofs.WidthLaws.{same-width, cast-width}
+use Rattle.width.proofs.KindLaws.{same-width, cast-width}
 use Rattle.width.proofs.unary_width.Statement.{statement}
 use Rattle.width.proofs.unary_width.Tie as tie
 

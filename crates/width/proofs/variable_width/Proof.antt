@@ -1,6 +1,6 @@
 -- `width::variable_width` meets its contract. Assumes nothing.
 use borrow.Author.Needs.{needs}
-use Rattle.width.proofs.WidthLaws.{in-list, past-list}
+use Rattle.width.proofs.KindLaws.{in-list, past-list}
 use Rattle.width.proofs.variable_width.Statement.{statement}
 use Rattle.width.proofs.variable_width.Tie as tie
 

@@ -1,4 +1,4 @@
--- The widths of a node, from those of its children. Assumes nothing.
+-- The width and the operand rule of a node, by the number of its kind. Assumes nothing.
 use mathlib.Core.Path.{_≡_, refl, sym, ap, ap₂, _∙_}
 use mathlib.Core.Bool.{Bool, true, false, not, _&&_}
 use mathlib.Core.List.{List, [], _∷_}
@@ -14,23 +14,12 @@ use Rattle.arith.specs.Choice.{if_then_else_}
 use Rattle.expr.specs.Outcome.{Outcome, refused, accepted, _andThen_}
 use Rattle.expr.specs.OutcomeLaws.{then-accepted, then-refused}
 use Rattle.expr.specs.Expr.{Leaf, Constant, Variable, Unary, Not, Neg, Shr, ZExt, SExt, Trunc, Binary, Add, Mul, And, Or, Xor, Concat, leaf, leafNumber, leafOperand, unaryNumber, unaryOperand, binaryNumber}
+use Rattle.width.specs.WidthLaws.{supported-is}
 use Rattle.width.specs.Width.{carrying, supported, ranged, valid, unaryWidth, binaryWidth, checkedWidthOf, unaryRule, binaryRule, isUniformWidth}
 
 -- ---- a width is in range, or refused
 
 module _ (w : ℕ) where
-  pub in-range : 1 ≤ w → w < 65 → true ≡ supported w
-  unfolding supported
-  in-range a b = sym (ap₂ _&&_ (le-leb 1 w a) (le-leb w 64 (omega arith)))
-
-  pub too-narrow : w < 1 → false ≡ supported w
-  unfolding supported
-  too-narrow a = sym (ap (λ (b : Bool). b && leb w 64) (lt-leb 1 w a))
-
-  pub too-wide : 1 ≤ w → 65 ≤ w → false ≡ supported w
-  unfolding supported
-  too-wide a b = sym (ap₂ _&&_ (le-leb 1 w a) (lt-leb w 64 (omega arith)))
-
   module _ (b : Bool) (e : b ≡ supported w) where
     pub ranged-yes : not b ≡ false → ranged w ≡ accepted w
     unfolding ranged
@@ -41,13 +30,7 @@ module _ (w : ℕ) where
     ranged-no f = rw (sym e ∙ not-true b f)
 
     at-most : not b ≡ false → w ≤ 64
-    unfolding supported
-    at-most f = go (leb 1 w) (leb w 64) refl (sym e ∙ not-false b f)
-      where
-        go : (a c : Bool) → leb w 64 ≡ c → (a && c) ≡ true → w ≤ 64
-        go true true g h = leb-true w 64 g
-        go true false g h = absurd (let z : _≡_ {A = ℕ} 0 1 = cc in omega arith)
-        go false c g h = absurd (let z : _≡_ {A = ℕ} 0 1 = cc in omega arith)
+    at-most f = supported-is w (sym e ∙ not-false b f) .1
 
   -- a width that was looked at once is not refused the second time
   pub ranged-twice : (ranged w andThen ranged) ≡ ranged w

@@ -1,0 +1,62 @@
+-- The value of a tree, which document 01 adds to the Rust: SMT-LIB's bit vectors decide it. Definitions only.
+use mathlib.Core.Bool.{Bool}
+use mathlib.Core.List.{List}
+use Prim.Native.Nat.{ℕ, suc, _%_, _^_, max}
+use lib.Dec.{leb}
+use lib.ListN.{length, getD}
+use Rattle.arith.specs.Choice.{if_then_else_}
+use Rattle.arith.specs.Bv.{bvadd, bvmul, bvand, bvor, bvxor, bvnot, bvneg, bvlshr}
+use Rattle.expr.specs.Refusals.{refusal}
+use Rattle.expr.specs.Outcome.{Outcome, refused, accepted, _andThen_}
+use Rattle.expr.specs.Expr.{Constant, Variable, Unary, Not, Neg, Shr, ZExt, SExt, Trunc, Binary, Add, Mul, And, Or, Xor, Concat, Expr, leaf, unary, binary}
+use Rattle.expr.specs.Parse.{parse}
+use Rattle.width.specs.Width.{supported, isUniformWidth}
+
+-- a node with one child at width w, from the child's value; Shr goes by its operand as a number. A cast has no value at one width: no
+-- call gives one to a tree that has it, and 0 stands here
+abbrev pub unaryValue : ℕ → Unary → ℕ → ℕ
+unaryValue w Not x = bvnot w x
+unaryValue w Neg x = bvneg w x
+unaryValue w (Shr k) x = bvlshr w x k
+unaryValue w (ZExt n) x = 0
+unaryValue w (SExt n) x = 0
+unaryValue w (Trunc n) x = 0
+
+-- a node with two children, from their values; a Concat as a cast
+abbrev pub binaryValue : ℕ → Binary → ℕ → ℕ → ℕ
+binaryValue w Add x y = bvadd w x y
+binaryValue w Mul x y = bvmul w x y
+binaryValue w And x y = bvand x y
+binaryValue w Or x y = bvor x y
+binaryValue w Xor x y = bvxor x y
+binaryValue w Concat x y = 0
+
+-- the value of a tree at width w and a setting σ: a Constant is its operand modulo 2 ^ w, a Variable its lent word modulo 2 ^ w
+unfoldable pub value : ℕ → List ℕ → Expr → ℕ
+value w σ (leaf (Constant c)) = c % 2 ^ w
+value w σ (leaf (Variable i)) = getD σ i 0 % 2 ^ w
+value w σ (unary k t) = unaryValue w k (value w σ t)
+value w σ (binary k l r) = binaryValue w k (value w σ l) (value w σ r)
+
+-- document 01's conditions: the highest variable number plus one, 0 without a variable; a setting needs so many words
+unfoldable pub conditions : Expr → ℕ
+conditions (leaf (Constant c)) = 0
+conditions (leaf (Variable i)) = suc i
+conditions (unary k t) = conditions t
+conditions (binary k l r) = max (conditions l) (conditions r)
+
+-- the setting has a word for each variable of the tree
+unfoldable pub isLent : List ℕ → Expr → Bool
+isLent σ t = leb (conditions t) (length σ)
+
+-- 8 where `is_uniform_width` says no
+abbrev pub uniform : List ℕ → ℕ → Expr → Outcome Expr
+uniform widths w t = if isUniformWidth widths w t then accepted t else refused (refusal 8)
+
+-- document 01's tree of one width: none of the refusals 1 to 8 holds for the words at width w and the list of the variables' widths
+unfoldable pub oneWidth : List ℕ → ℕ → List ℕ → Outcome Expr
+oneWidth ws w widths = if supported w then parse ws andThen uniform widths w else refused (refusal 1)
+
+-- the value of a tree of one width; 15 where a variable has no lent word
+unfoldable pub valueAt : ℕ → List ℕ → Expr → Outcome ℕ
+valueAt w σ t = if isLent σ t then accepted (value w σ t) else refused (refusal 15)

@@ -1,0 +1,31 @@
+-- Which widths are supported. Assumes nothing.
+use mathlib.Core.Path.{_≡_, refl, sym, ap, ap₂}
+use mathlib.Core.Bool.{Bool, true, false, _&&_}
+use Prim.Native.Nat.{ℕ, _≤_, _<_}
+use native.Mathlib.Omega.{arith}
+use lib.Dec.{leb}
+use borrow.Author.Tests.{le-leb, lt-leb, leb-true}
+use Rattle.width.specs.Width.{supported}
+
+module _ (w : ℕ) where
+  pub in-range : 1 ≤ w → w < 65 → true ≡ supported w
+  unfolding supported
+  in-range a b = sym (ap₂ _&&_ (le-leb 1 w a) (le-leb w 64 (omega arith)))
+
+  pub too-narrow : w < 1 → false ≡ supported w
+  unfolding supported
+  too-narrow a = sym (ap (λ (b : Bool). b && leb w 64) (lt-leb 1 w a))
+
+  pub too-wide : 1 ≤ w → 65 ≤ w → false ≡ supported w
+  unfolding supported
+  too-wide a b = sym (ap₂ _&&_ (le-leb 1 w a) (lt-leb w 64 (omega arith)))
+
+  -- and no other
+  pub supported-is : supported w ≡ true → (1 ≤ w) × (w ≤ 64)
+  unfolding supported
+  supported-is e = go (leb 1 w) (leb w 64) refl refl e
+    where
+      go : (a c : Bool) → leb 1 w ≡ a → leb w 64 ≡ c → (a && c) ≡ true → (1 ≤ w) × (w ≤ 64)
+      go true true f g h = (leb-true 1 w f, leb-true w 64 g)
+      go true false f g h = absurd (let z : _≡_ {A = ℕ} 0 1 = cc in omega arith)
+      go false c f g h = absurd (let z : _≡_ {A = ℕ} 0 1 = cc in omega arith)
