@@ -3,28 +3,24 @@ use mathlib.Core.Path.{_≡_, sym, ap, _∙_}
 use mathlib.Core.Bool.{Bool, not}
 use mathlib.Core.List.{List}
 use Prim.Native.Nat.{ℕ}
-use Rattle.expr.specs.declared.refusal.Refusal.{Refusal}
 use Rattle.expr.specs.declared.Counted.{Counted}
 use Rattle.expr.specs.declared.Counted.the-variants as counted
 use Rattle.expr.specs.declared.Verdict.{Verdict}
-use Rattle.expr.specs.Refusals.{reasonOf}
-use Rattle.expr.specs.Outcome.{Outcome, refused, accepted, mapped}
-use Rattle.expr.specs.OutcomeLaws.{mapped-accepted, Made, mapped-made, refused-mapped, mapped-mapped}
+use Rattle.expr.specs.Outcome.{Outcome, accepted, mapped}
+use Rattle.expr.specs.OutcomeLaws.{mapped-accepted, mapped-mapped}
 use Rattle.expr.specs.Expr.{Expr, encode, nodes}
 use Rattle.expr.specs.ExprUtils.{isConstantSubtree, hasVarDep}
 use Rattle.expr.specs.Parse.{parse}
 use Rattle.expr.specs.ParseLaws.{parse-sound}
 use Rattle.expr.specs.Answers.{countedOutcome, verdictOutcome}
+use Rattle.expr.specs.FrontLaws.{Whole, whole}
 use Rattle.expr.proofs.VariableLaws.{constant-is}
 
-module _ (ws : List ℕ) (x : Counted) (e : countedOutcome x ≡ mapped nodes (parse ws)) where
-  pub dep-refused : (r : Refusal) → x ≡ counted.Refused r → refused (reasonOf r) ≡ mapped hasVarDep (parse ws)
-  dep-refused r g = refused-mapped nodes hasVarDep (parse ws) (ap countedOutcome (sym g) ∙ e)
-
-  pub dep-known : (n : ℕ) (b : Bool) → x ≡ counted.Count n → ((t : Expr) → ws ≡ encode t → b ≡ hasVarDep t) → accepted b ≡ mapped hasVarDep (parse ws)
-  dep-known n b g h =
-      let m : Made nodes (parse ws) n = mapped-made nodes (parse ws) (ap countedOutcome (sym g) ∙ e) in
-      ap accepted (h (m .answer) (parse-sound ws (m .answer) (m .was) .words)) ∙ sym (mapped-accepted (m .was) hasVarDep)
+pub dep-known : (ws : List ℕ) (x : Counted) (n : ℕ) (b : Bool) → countedOutcome x ≡ mapped nodes (parse ws) → x ≡ counted.Count n
+    → ((t : Expr) → ws ≡ encode t → b ≡ hasVarDep t) → accepted b ≡ mapped hasVarDep (parse ws)
+dep-known ws x n b e g h =
+    let t : Whole ws = whole ws x n e g in
+    ap accepted (h (t .tree) (parse-sound ws (t .tree) (t .is) .words)) ∙ sym (mapped-accepted (t .is) hasVarDep)
 
 -- the answer to one question is the other's, turned round
 pub turned-round : (ws : List ℕ) (x y : Verdict) (z : Outcome Bool) → verdictOutcome x ≡ mapped hasVarDep (parse ws) → x ≡ y → z ≡ mapped not (verdictOutcome y)

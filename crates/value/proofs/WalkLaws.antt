@@ -1,12 +1,11 @@
 -- What the walk has found of the tree at the front of the words, and what the calls answer. Assumes nothing.
-use mathlib.Core.Path.{_≡_, refl, sym, ap, subst, _∙_}
+use mathlib.Core.Path.{_≡_, sym, ap, _∙_}
 use mathlib.Core.Bool.{Bool, true, false, not}
 use mathlib.Core.List.{List}
-use Prim.Native.Nat.{ℕ, _*_, _/_, _≤_, _<_}
+use Prim.Native.Nat.{ℕ, _/_, _≤_, _<_}
 use native.Mathlib.Omega.{arith}
 use lib.ListN.{length, getD}
 use borrow.Author.Tests.{not-true, not-false}
-use Rattle.arith.specs.Choice.{if_then_else_}
 use Rattle.expr.specs.declared.refusal.Refusal.{Refusal}
 use Rattle.expr.specs.declared.Arity.{Arity}
 use Rattle.expr.specs.declared.Arity.the-variants.{Zero, One, Two}
@@ -15,7 +14,7 @@ use Rattle.expr.specs.declared.Counted.the-variants as counted
 use Rattle.expr.specs.declared.Verdict.{Verdict}
 use Rattle.expr.specs.declared.Verdict.the-variants as verdict
 use Rattle.expr.specs.Refusals.{refusal, reasonOf}
-use Rattle.expr.specs.Outcome.{Outcome, refused, accepted, mapped, _andThen_}
+use Rattle.expr.specs.Outcome.{refused, accepted, mapped, _andThen_}
 use Rattle.expr.specs.OutcomeLaws.{then-accepted, refused-then, Made, mapped-made}
 use Rattle.expr.specs.Expr.{Leaf, Unary, Binary, Expr, leaf, unary, binary, nodes, leafNumber, leafOperand, unaryNumber, unaryOperand, binaryNumber}
 use Rattle.expr.specs.ExprLaws.{length-encode}
@@ -74,11 +73,7 @@ module _ (ws : List ℕ) (w : ℕ) (widths : List ℕ) where
       asked = rw (sym (in-range w p (omega arith)))
 
       pub words-refused : (r : Refusal) → y ≡ verdict.Refused r → refused (reasonOf r) ≡ mapped nodes (oneWidth ws w widths)
-      words-refused r g =
-          refused-mapped-then (ap verdictOutcome (sym g) ∙ e) ∙ asked
-        where
-          refused-mapped-then : refused (reasonOf r) ≡ mapped (isUniformWidth widths w) (parse ws) → refused (reasonOf r) ≡ mapped nodes (parse ws andThen uniform widths w)
-          refused-mapped-then h = ap (mapped nodes) (refused-then (isUniformWidth widths w) (uniform widths w) (parse ws) h)
+      words-refused r g = ap (mapped nodes) (refused-then (isUniformWidth widths w) (uniform widths w) (parse ws) (ap verdictOutcome (sym g) ∙ e)) ∙ asked
 
       module _ (b : Bool) (g : y ≡ verdict.Known b) where
         found : Made (isUniformWidth widths w) (parse ws) b

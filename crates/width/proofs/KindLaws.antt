@@ -1,21 +1,20 @@
 -- The width and the operand rule of a node, by the number of its kind. Assumes nothing.
 use mathlib.Core.Path.{_≡_, refl, sym, ap, ap₂, _∙_}
-use mathlib.Core.Bool.{Bool, true, false, not, _&&_}
+use mathlib.Core.Bool.{Bool, true, false, not}
 use mathlib.Core.List.{List, [], _∷_}
 use Prim.Native.Nat.{ℕ, zero, suc, _+_, _≤_, _<_}
 use native.Mathlib.Omega.{arith}
-use lib.Dec.{T, leb, ltb, eqb, leb→le}
+use lib.Dec.{ltb, eqb}
 use lib.ListN.{length, getD, List·getD-eq-default}
-use mir.Facts.{and-yes}
 use mir.Syntax.{w32}
 use mir.Val.{Fits}
-use borrow.Author.Tests.{not-true, not-false, eq-eqb, ne-eqb, lt-ltb, le-ltb, le-leb, lt-leb, leb-true}
+use borrow.Author.Tests.{not-true, not-false, eq-eqb, ne-eqb, lt-ltb, le-ltb}
 use Rattle.arith.specs.Choice.{if_then_else_}
 use Rattle.expr.specs.Outcome.{Outcome, refused, accepted, _andThen_}
 use Rattle.expr.specs.OutcomeLaws.{then-accepted, then-refused}
 use Rattle.expr.specs.Expr.{Leaf, Constant, Variable, Unary, Not, Neg, Shr, ZExt, SExt, Trunc, Binary, Add, Mul, And, Or, Xor, Concat, leaf, leafNumber, leafOperand, unaryNumber, unaryOperand, binaryNumber}
 use Rattle.width.specs.WidthLaws.{supported-is}
-use Rattle.width.specs.Width.{carrying, supported, ranged, valid, unaryWidth, binaryWidth, checkedWidthOf, unaryRule, binaryRule, isUniformWidth}
+use Rattle.width.specs.Width.{carrying, supported, ranged, valid, unaryWidth, binaryWidth, checkedWidthOf, unaryRule, binaryRule}
 
 -- ---- a width is in range, or refused
 

@@ -8,7 +8,7 @@ use Rattle.expr.specs.declared.refusal.Reason.{Reason}
 use Rattle.expr.specs.declared.refusal.Refusal.{Refusal}
 use Rattle.expr.specs.Refusals.{reasonOf}
 use Rattle.expr.specs.Outcome.{Outcome, refused, accepted, _andThen_}
-use Rattle.expr.specs.OutcomeLaws.{then-accepted, then-refused}
+use Rattle.expr.specs.OutcomeLaws.{then-refused}
 use Rattle.expr.specs.Expr.{Leaf, Unary, Binary, Expr, leaf, unary, binary, leafNumber, leafOperand, unaryNumber, unaryOperand, binaryNumber}
 use Rattle.width.specs.declared.Widths.{Widths}
 use Rattle.width.specs.declared.Validity.{Validity}

@@ -1,10 +1,10 @@
 -- What the walks have found of the tree at the front of the words. Assumes nothing.
 use mathlib.Core.Path.{_≡_, sym, ap, subst, _∙_}
-use mathlib.Core.Bool.{Bool, true, false, not, _&&_}
+use mathlib.Core.Bool.{Bool, true, false, not}
 use mathlib.Core.List.{List}
-use Prim.Native.Nat.{ℕ, _≤_, _<_}
+use Prim.Native.Nat.{ℕ, _≤_}
 use native.Mathlib.Omega.{arith}
-use lib.Dec.{T, leb→le, eqb→eq}
+use lib.Dec.{T, leb→le}
 use lib.ListN.{getD}
 use mir.Syntax.{w32}
 use mir.Val.{Fits}
@@ -14,14 +14,14 @@ use Rattle.expr.specs.declared.Counted.{Counted}
 use Rattle.expr.specs.declared.Counted.the-variants.{Count}
 use Rattle.expr.specs.Outcome.{Outcome, refused, accepted, mapped, _andThen_}
 use Rattle.expr.specs.OutcomeLaws.{then-accepted, mapped-accepted}
-use Rattle.expr.specs.Expr.{Leaf, Unary, Not, Neg, Shr, ZExt, SExt, Trunc, Binary, Add, Mul, And, Or, Xor, Concat, Expr, leaf, unary, binary, nodes, leafNumber, leafOperand, unaryNumber, unaryOperand, binaryNumber}
+use Rattle.expr.specs.Expr.{Leaf, Unary, Not, Neg, Shr, ZExt, SExt, Trunc, Binary, Expr, leaf, unary, binary, nodes, leafNumber, leafOperand, unaryNumber, unaryOperand, binaryNumber}
 use Rattle.expr.specs.Parse.{arityOf, operandOk, parse}
 use Rattle.expr.specs.Answers.{arityOutcome, countedOutcome}
 use Rattle.expr.specs.Front.{Front, Starts, Read}
 use Rattle.expr.specs.TailLaws.{tail}
 use Rattle.expr.specs.FrontLaws.{leaf-node, unary-node, binary-node, right-front, parse-front, Whole, whole}
 use Rattle.width.specs.declared.Widths.{Widths}
-use Rattle.width.specs.Width.{carrying, supported, ranged, checkedWidthOf, orZero, widthOf, validateWidths, isUniformWidth}
+use Rattle.width.specs.Width.{carrying, supported, ranged, checkedWidthOf, orZero, widthOf, validateWidths}
 use Rattle.width.specs.Answers.{validityOutcome, WidthsOf}
 use Rattle.width.proofs.KindLaws.{ranged-yes, ranged-no}
 

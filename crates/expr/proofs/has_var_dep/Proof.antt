@@ -1,10 +1,11 @@
 -- `expr::has_var_dep` meets its contract. Assumes nothing.
 use borrow.Author.Needs.{needs}
-use Rattle.expr.proofs.VerdictLaws.{dep-refused, dep-known}
+use Rattle.expr.specs.FrontLaws.{turned-down}
+use Rattle.expr.proofs.VerdictLaws.{dep-known}
 use Rattle.expr.proofs.has_var_dep.Statement.{statement}
 use Rattle.expr.proofs.has_var_dep.Tie as tie
 
-ruleset rules = (needs, dep-refused, dep-known)
+ruleset rules = (needs, turned-down, dep-known)
 
 pub has-var-dep-spec : {M : Type 1} → statement M
 has-var-dep-spec =
