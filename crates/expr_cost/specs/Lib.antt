@@ -1,0 +1,4 @@
+pub mod ExprCost
+pub mod Answers
+pub mod Contracts
+pub mod ExprCostLaws
