@@ -1,7 +1,7 @@
 //! Writes OUT_DIR/core.rs, which names the original files where they stand, so that rustc reads them unchanged.
 use std::{env, fs, path::Path};
 
-const ORIGINALS: [&str; 3] = ["arith", "expr", "expr_utils"];
+const ORIGINALS: [&str; 6] = ["arith", "expr", "expr_utils", "expr_cost", "width", "result"];
 
 fn main() {
     let here = env::var("CARGO_MANIFEST_DIR").unwrap();

@@ -1,39 +1,53 @@
 //! One request to its answer. An error is a line that is no request.
 use crate::core::expr::Expr;
 use crate::core::{arith, expr_utils};
-use crate::words::{self, Refusal};
+use crate::fields::{self, hex, narrow};
+use crate::refusal::{self, Refusal};
+use crate::words;
+use crate::{cost, value, width};
 
 pub fn answer(request: &str) -> Result<String, String> {
     let mut fields = request.split(' ');
     let name = fields.next().unwrap_or_default();
     let fields: Vec<&str> = fields.collect();
-    if name == "same_words" {
-        return same_words(&fields);
+    let lists = fields::lists(&fields)?;
+    let lists: Vec<&[u64]> = lists.iter().map(|list| &list[..]).collect();
+    match (name, &lists[..]) {
+        (_, [numbers]) => of_one_list(name, numbers),
+        ("same_words", [left, right]) => Ok(hex(u64::from(same_words(left, right)))),
+        ("is_better", [candidate, baseline]) => cost::is_better(candidate, baseline),
+        ("value", [&[w], widths, setting, words]) => value::value(words, narrow(w)?, &fields::all_narrow(widths)?, setting),
+        ("check_one_width", [&[w], widths, words]) => value::check_one_width(words, narrow(w)?, &fields::all_narrow(widths)?),
+        (_, [&[w], widths, words]) => width::answer(name, words, &fields::all_narrow(widths)?, narrow(w)?),
+        _ => Err(format!("no request {name} of {} lists", lists.len())),
     }
-    let numbers = numbers(&fields)?;
-    match (name, &numbers[..]) {
+}
+
+fn of_one_list(name: &str, numbers: &[u64]) -> Result<String, String> {
+    match (name, numbers) {
         ("arity_of", &[kind]) => Ok(text(words::arity(kind).map(|n| n as u64))),
         ("check_tree", words) => Ok(of_tree(words, node_count)),
         ("is_constant_subtree", words) => Ok(of_tree(words, |e| u64::from(expr_utils::is_constant_subtree(e)))),
         ("has_var_dep", words) => Ok(of_tree(words, |e| u64::from(expr_utils::has_var_dep(e)))),
         ("span", words) => Ok(text(words::span(words).map(|n| n as u64))),
-        _ => arithmetic(name, &numbers).map(hex),
+        ("compute_cost", words) => Ok(cost::compute_cost(words)),
+        _ => arithmetic(name, numbers).map(hex),
     }
 }
 
 fn arithmetic(name: &str, numbers: &[u64]) -> Result<u64, String> {
     Ok(match (name, numbers) {
-        ("bitmask", &[w]) => arith::bitmask(width(w)?),
-        ("sign_bit_mask", &[w]) => arith::sign_bit_mask(width(w)?),
-        ("mod_add", &[a, b, w]) => arith::mod_add(a, b, width(w)?),
-        ("mod_sub", &[a, b, w]) => arith::mod_sub(a, b, width(w)?),
-        ("mod_mul", &[a, b, w]) => arith::mod_mul(a, b, width(w)?),
-        ("mod_neg", &[a, w]) => arith::mod_neg(a, width(w)?),
-        ("mod_not", &[a, w]) => arith::mod_not(a, width(w)?),
-        ("mod_shr", &[a, k, w]) => arith::mod_shr(a, k, width(w)?),
-        ("zext", &[v, to]) => arith::zext(v, width(to)?),
-        ("trunc", &[v, to]) => arith::trunc(v, width(to)?),
-        ("sext", &[v, from, to]) => arith::sext(v, width(from)?, width(to)?),
+        ("bitmask", &[w]) => arith::bitmask(narrow(w)?),
+        ("sign_bit_mask", &[w]) => arith::sign_bit_mask(narrow(w)?),
+        ("mod_add", &[a, b, w]) => arith::mod_add(a, b, narrow(w)?),
+        ("mod_sub", &[a, b, w]) => arith::mod_sub(a, b, narrow(w)?),
+        ("mod_mul", &[a, b, w]) => arith::mod_mul(a, b, narrow(w)?),
+        ("mod_neg", &[a, w]) => arith::mod_neg(a, narrow(w)?),
+        ("mod_not", &[a, w]) => arith::mod_not(a, narrow(w)?),
+        ("mod_shr", &[a, k, w]) => arith::mod_shr(a, k, narrow(w)?),
+        ("zext", &[v, to]) => arith::zext(v, narrow(to)?),
+        ("trunc", &[v, to]) => arith::trunc(v, narrow(to)?),
+        ("sext", &[v, from, to]) => arith::sext(v, narrow(from)?, narrow(to)?),
         _ => return Err(format!("no request {name} of {} numbers", numbers.len())),
     })
 }
@@ -42,45 +56,21 @@ fn of_tree(words: &[u64], value: impl Fn(&Expr) -> u64) -> String {
     text(words::read(words).map(|tree| value(&tree)))
 }
 
-fn node_count(tree: &Expr) -> u64 {
+pub fn node_count(tree: &Expr) -> u64 {
     1 + tree.children.iter().map(|child| node_count(child)).sum::<u64>()
 }
 
 /// The original compares trees; lists that are none are compared as lists.
-fn same_words(fields: &[&str]) -> Result<String, String> {
-    let slash = fields.iter().position(|&f| f == "/").ok_or("same_words without /")?;
-    let left = numbers(&fields[..slash])?;
-    let right = numbers(&fields[slash + 1..])?;
-    let same = match (words::read(&left), words::read(&right)) {
+fn same_words(left: &[u64], right: &[u64]) -> bool {
+    match (words::read(left), words::read(right)) {
         (Ok(a), Ok(b)) => a == b,
         _ => left == right,
-    };
-    Ok(hex(u64::from(same)))
-}
-
-fn numbers(fields: &[&str]) -> Result<Vec<u64>, String> {
-    fields.iter().map(|field| number(field)).collect()
-}
-
-/// Takes the one spelling that `hex` writes.
-fn number(field: &str) -> Result<u64, String> {
-    match u64::from_str_radix(field, 16) {
-        Ok(n) if hex(n) == field => Ok(n),
-        _ => Err(format!("not a number: {field:?}")),
     }
 }
 
-fn width(number: u64) -> Result<u32, String> {
-    u32::try_from(number).map_err(|_| format!("width over 32 bits: {number:x}"))
-}
-
-fn text(answer: Result<u64, Refusal>) -> String {
+pub fn text(answer: Result<u64, Refusal>) -> String {
     match answer {
         Ok(n) => hex(n),
-        Err(n) => format!("refused {n:x}"),
+        Err(r) => refusal::text(r),
     }
-}
-
-fn hex(n: u64) -> String {
-    format!("{n:x}")
 }

@@ -8,6 +8,11 @@ mod core {
     include!(concat!(env!("OUT_DIR"), "/core.rs"));
 }
 mod answer;
+mod cost;
+mod fields;
+mod refusal;
+mod value;
+mod width;
 mod words;
 
 /// Ends at the first line that is no request, so that none gets into a stored list.

@@ -1,5 +1,6 @@
 //! Trees as word lists, and the refusals of lists that are none. The original knows no words: this file is the harness's own.
 use crate::core::expr::{Expr, Kind};
+use crate::refusal::{plain, Refusal};
 use smallvec::SmallVec;
 use std::sync::Arc;
 
@@ -7,9 +8,6 @@ const MAX_WORDS: usize = 1024;
 const MAX_DEPTH: usize = 64;
 const MAX_U32: u64 = u32::MAX as u64;
 const LAST_KIND: u64 = 13;
-
-/// The number of a refusal.
-pub type Refusal = u32;
 
 /// The tree that the whole list is, or the first refusal: 2 for the list, one of 6, 3, 4, 5 for a node, 7 for the end.
 pub fn read(words: &[u64]) -> Result<Arc<Expr>, Refusal> {
@@ -28,7 +26,7 @@ pub fn span(words: &[u64]) -> Result<usize, Refusal> {
 
 /// A subtree takes two words and what its children take.
 fn words_taken(words: &[u64]) -> Result<usize, Refusal> {
-    let kind = *words.first().ok_or(6u32)?;
+    let kind = *words.first().ok_or(plain(6))?;
     let mut taken = 2;
     for _ in 0..arity(kind)? {
         taken += words_taken(&words[taken..])?;
@@ -39,14 +37,14 @@ fn words_taken(words: &[u64]) -> Result<usize, Refusal> {
 /// The number of children of a kind word, which the original tells, or refusal 3.
 pub fn arity(kind: u64) -> Result<usize, Refusal> {
     if kind > LAST_KIND {
-        return Err(3);
+        return Err(plain(3));
     }
     Ok(kind_of(kind, 0).arity())
 }
 
 fn check_length(words: &[u64]) -> Result<(), Refusal> {
     if words.is_empty() || words.len() % 2 == 1 || words.len() > MAX_WORDS {
-        return Err(2);
+        return Err(plain(2));
     }
     Ok(())
 }
@@ -55,19 +53,19 @@ fn check_nodes(words: &[u64]) -> Result<(), Refusal> {
     let mut nodes = words.chunks(2);
     let mut due = vec![1]; // depths of the nodes still due, the next one last
     while let Some(depth) = due.pop() {
-        let node = nodes.next().ok_or(6u32)?;
+        let node = nodes.next().ok_or(plain(6))?;
         let children = arity(node[0])?;
         if !operand_fits(node[0], node[1]) {
-            return Err(4);
+            return Err(plain(4));
         }
         if depth > MAX_DEPTH {
-            return Err(5);
+            return Err(plain(5));
         }
         due.extend(vec![depth + 1; children]);
     }
     match nodes.next() {
         None => Ok(()),
-        Some(_) => Err(7),
+        Some(_) => Err(plain(7)),
     }
 }
 
