@@ -4,7 +4,7 @@ import sys
 
 sys.dont_write_bytecode = True
 
-from lists import arithmetic, trees
+from lists import arithmetic, costs, refusals, trees, values, widths
 from lists.common import Random
 
 
@@ -17,7 +17,8 @@ def requests():
             + trees.words_that_end(Random(7)) + trees.words_left_over(Random(8)) + trees.two_refusals()
             + trees.damaged_trees(Random(9)) + trees.rubbish(Random(10))
             + trees.first_subtrees(Random(11)) + trees.unlooked_at()
-            + trees.equal_lists(Random(12)))
+            + trees.equal_lists(Random(12))
+            + widths.requests(Random) + costs.requests(Random) + values.requests(Random) + refusals.requests(Random))
 
 
 for line in dict.fromkeys(requests()):
