@@ -2,6 +2,12 @@
 ghost use Prim.Native.Nat.{_≤_};
 ghost use lib.ListN.{length};
 
+// More than the 1,024 words that a tree may have, so that a request can have too many of them.
+pub(crate) const MOST_WORDS: usize = 1100;
+
+// A width has 32 bits.
+pub(crate) const LARGEST_WIDTH: u64 = 0xffff_ffff;
+
 enum Field {
     Number(u64),
     Bad,
@@ -11,6 +17,13 @@ enum Field {
 pub(crate) struct Listed {
     pub good: bool,
     pub count: usize,
+}
+
+// Whether more lists follow the first one of a text, where it ends, and where the text of the next ones begins.
+pub(crate) struct Split {
+    pub more: bool,
+    pub end: usize,
+    pub next: usize,
 }
 
 // The first place from `from` on where `byte` stands; the length where there is none.
@@ -81,4 +94,73 @@ pub(crate) fn words_in(list: &[u8], words: &mut [u64]) -> Listed
         at = end;
     }
     Listed { good: true, count }
+}
+
+// Puts words that are widths at the front of `widths`.
+fn narrowed(words: &[u64], widths: &mut [u32]) -> Listed
+    ensures { λ r. ⌜ r .count ≤ length (now (widths .entry)) ⌝ }
+{
+    let mut count = 0;
+    while count < words.len() {
+        let word = words[count];
+        if LARGEST_WIDTH < word {
+            return Listed { good: false, count };
+        }
+        if widths.len() <= count {
+            return Listed { good: false, count };
+        }
+        widths[count] = word as u32;
+        count += 1;
+    }
+    Listed { good: true, count }
+}
+
+// As `words_in`, for numbers of 32 bits.
+pub(crate) fn widths_in(list: &[u8], widths: &mut [u32]) -> Listed
+    ensures { λ r. ⌜ r .count ≤ length (now (widths .entry)) ⌝ }
+{
+    let mut words = [0u64; MOST_WORDS];
+    let listed = words_in(list, &mut words);
+    if !listed.good {
+        return Listed {
+            good: false,
+            count: 0,
+        };
+    }
+    let n = listed.count;
+    narrowed(&words[0..n], widths)
+}
+
+// A list ends where ` /` stands. A `/` without the space is left in it, where it is no number.
+pub(crate) fn first_list(lists: &[u8]) -> Split
+    ensures { λ r. ⌜ (r .end ≤ length (now (lists .entry))) × (r .next ≤ length (now (lists .entry))) ⌝ }
+{
+    let slash = find(lists, 0, b'/');
+    if slash == lists.len() {
+        return Split {
+            more: false,
+            end: slash,
+            next: slash,
+        };
+    }
+    if slash == 0 {
+        return Split {
+            more: false,
+            end: slash,
+            next: slash,
+        };
+    }
+    let end = slash - 1;
+    if lists[end] != b' ' {
+        return Split {
+            more: false,
+            end: slash,
+            next: slash,
+        };
+    }
+    Split {
+        more: true,
+        end,
+        next: slash + 1,
+    }
 }

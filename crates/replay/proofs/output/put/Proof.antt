@@ -1,11 +1,11 @@
--- `replay::put` is safe and ends: the next free place lies within `out`. Assumes nothing.
+-- `replay::output::put` is safe and ends: the next free place lies within `out`. Assumes nothing.
 use mathlib.Core.Path.{_≡_}
 use Prim.Native.Nat.{_≤_, _<_, _-_}
 use borrow.Author.Needs.{needs}
 use native.Mathlib.Omega.{arith}
 use lib.ListN.{length, length-set}
-use Rattle.replay.proofs.put.Statement.{statement}
-use Rattle.replay.proofs.put.Tie as tie
+use Rattle.replay.proofs.output.put.Statement.{statement}
+use Rattle.replay.proofs.output.put.Tie as tie
 
 abbrev Inv-loop : tie.InvT-loop
 Inv-loop out₀ have bytes waiting₀ i₀ out waiting i =
