@@ -1,6 +1,6 @@
 """Requests to expr_cost.rs."""
-from .build import (ADD, BINARY, CONSTANT, LEAVES, NOT, UNARY, VARIABLE, any_leaf, balanced, constant, over, random_tree, some_size,
-                    some_tree, variable, with_one_variable)
+from .build import (ADD, BINARY, CONSTANT, LEAVES, NOT, UNARY, VARIABLE, WITH_NUMBER, any_leaf, balanced, constant, over,
+                    random_tree, some_size, some_tree, variable, with_one_variable)
 from .common import BIG, request
 
 MUL = [3, 0]
@@ -29,8 +29,9 @@ def known_costs():
              product(product(three, three), product(x, y)), product(ADD + three + x, ADD + y + three),
              product(ADD + three + three, ADD + y + three), NOT + product(x, y), product(NOT + x, [9, 3] + three)]
     lists += [over(kind, 0, leaf) for kind in LEAVES + BINARY + UNARY for leaf in (CONSTANT, VARIABLE)]
-    lists += [[kind, 0] + left + right for kind in BINARY for left in (x, three, product(x, y)) for right in (x, three, product(y, x))]
-    lists += [[kind, 7 if kind in (9, 10, 11, 12) else 0] + below for kind in UNARY for below in (product(x, y), product(three, x))]
+    parts = (x, three, product(x, y))
+    lists += [[kind, 0] + left + right for kind in BINARY for left in parts for right in parts]
+    lists += [[kind, 7 if kind in WITH_NUMBER else 0] + product(left, x) for kind in UNARY for left in (y, three)]
     return [cost(words) for words in lists]
 
 

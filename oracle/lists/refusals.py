@@ -1,6 +1,6 @@
 """Every refusal of the calls on widths, costs and values, and the order between each two."""
-from .build import ADD, BAD_KIND, BAD_KINDS, BAD_OPERAND, CONSTANT, NOT, VARIABLE, balanced, damaged, left_chain, nots, over, \
-    right_chain, some_size, some_tree
+from .build import (ADD, BAD_KIND, BAD_KINDS, BAD_OPERAND, CONSTANT, NOT, VARIABLE, balanced, damaged, left_chain, nots, over,
+                    right_chain, some_size, some_tree)
 from .common import BIG, MAX, request
 from .trees import FEW_WORDS, with_two_refusals
 from .typed import CONCAT, Place, some_place, spoiled, typed

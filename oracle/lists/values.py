@@ -114,8 +114,8 @@ def full_trees(rng):
     for size in (80, 110, 150, 200, 260, 330):
         lines.append(value(uniform(rng, size, leaf_below(4)), rng.pick(WIDTHS), [rng.word() for _ in range(4)]))
     products = [3, 0] * 63 + X * 64
-    fixed = [NOT + balanced([X] * 256), NOT * 55 + balanced([[0, MAX]] * 229), NOT * 63 + X, left_chain(63, X), right_chain(63, X),
-             [8, 0] * 63 + X, [SHR, 1] * 63 + X, products]
+    fixed = [NOT + balanced([X] * 256), NOT * 55 + balanced([[0, MAX]] * 229), NOT * 63 + X, [8, 0] * 63 + X, [SHR, 1] * 63 + X,
+             left_chain(63, X), right_chain(63, X), products]
     for words in fixed:
         lines += [value(words, width, [rng.word()]) for width in (64, 7)] + [one_width(words, 8)]
     return lines
@@ -127,7 +127,8 @@ def settings():
     lines = []
     for words in ([1, 119], ADD + X + [1, 119], ADD + [1, 119] + X, NOT + [1, 119]):
         lines += [value(words, 8, long), value(words, 8, long[:-1]), value(words, 8, [])]
-    for words in ([1, 1], ADD + X + Y, ADD + Y + CONSTANT, [1, BIG - 1], ADD + X + [1, BIG - 1], ADD + [1, 255] + X, [1, 1 << 31]):
+    last = [1, BIG - 1]
+    for words in (Y, ADD + X + Y, ADD + Y + CONSTANT, last, ADD + X + last, ADD + [1, 255] + X, [1, 1 << 31]):
         lines += [value(words, 8, setting) for setting in ([], [5], [5, 6], [5, 6, 7])]
     return lines + [value(CONSTANT, 64, []), value(ADD + CONSTANT + [0, 7], 64, [])]
 

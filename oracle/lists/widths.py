@@ -1,7 +1,7 @@
 """Requests to width.rs."""
-from .build import ADD, CONSTANT, NOT, VARIABLE, balanced, nots, random_tree, any_leaf, some_size
+from .build import ADD, CONSTANT, NOT, VARIABLE, any_leaf, balanced, nots, random_tree, some_size
 from .common import BIG, request
-from .typed import CASTS, CONCAT, ODD_WIDTHS, Place, some_cast, some_place, spoiled, typed, uniform
+from .typed import CASTS, CONCAT, Place, some_cast, some_place, spoiled, typed, uniform
 
 WIDTHS_ASKED = [0, 1, 8, 32, 64, 65, BIG - 1]
 OF_WIDTH = ["checked_width_of", "width_of", "validate_widths"]
@@ -47,11 +47,9 @@ def leaves():
     lines = []
     for default in WIDTHS_ASKED:
         for listed in ([], [8], [8, 16], [0], [65], [BIG - 1], [1], [64], [8, 0, 65, BIG - 1], [16] * 9):
+            names = OF_WIDTH if len(listed) in (0, 4) else ["validate_widths"]
             for leaf in (CONSTANT, [0, BIG], VARIABLE, [1, 1], [1, 3], [1, BIG - 1]):
-                place = Place(listed, default)
-                lines += asked(["checked_width_of", "width_of"], leaf, place) if listed in ([], [8, 0, 65, BIG - 1]) else []
-                lines += asked(["validate_widths"], leaf, place)
-                lines.append(uniform_asked(leaf, listed, default))
+                lines += asked(names, leaf, Place(listed, default)) + [uniform_asked(leaf, listed, default)]
     return lines
 
 
@@ -186,7 +184,7 @@ def casts_in_chains(rng):
 # One width
 
 def uniform_trees(rng):
-    """Lists that are empty, of one width, with another width at the end or at random; every fourth tree has a cast or a Concat."""
+    """Lists that are empty, of one width, or with another one among it. Every fourth tree may have a cast or a Concat."""
     lines = []
     for turn in range(900):
         width = rng.pick(WIDTHS_ASKED + [1 + rng.below(64)])
@@ -202,6 +200,13 @@ def uniform_trees(rng):
 
 
 # Limits
+
+def concat_all(parts):
+    if len(parts) == 1:
+        return parts[0]
+    half = len(parts) // 2
+    return concat(concat_all(parts[:half]), concat_all(parts[half:]))
+
 
 def full_trees(rng):
     """Of 512 nodes, of 64 levels, or both."""
@@ -227,13 +232,6 @@ def full_trees(rng):
     for words, place in trees[:3]:
         lines += asked(OF_WIDTH, words, place) + [uniform_asked(words, place.listed, place.default)]
     return lines
-
-
-def concat_all(parts):
-    if len(parts) == 1:
-        return parts[0]
-    half = len(parts) // 2
-    return concat(concat_all(parts[:half]), concat_all(parts[half:]))
 
 
 def long_lists():

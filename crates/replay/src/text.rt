@@ -1,4 +1,5 @@
 // The fields of a line, and the numbers that they stand for.
+ghost use mathlib.Core.Path.{_≡_};
 ghost use Prim.Native.Nat.{_≤_};
 ghost use lib.ListN.{length};
 
@@ -131,32 +132,31 @@ pub(crate) fn widths_in(list: &[u8], widths: &mut [u32]) -> Listed
     narrowed(&words[0..n], widths)
 }
 
+// One list alone.
+fn unsplit(end: usize) -> Split
+    ensures { λ r. ⌜ (r .end ≡ end) × (r .next ≡ end) ⌝ }
+{
+    Split {
+        more: false,
+        end,
+        next: end,
+    }
+}
+
 // A list ends where ` /` stands. A `/` without the space is left in it, where it is no number.
 pub(crate) fn first_list(lists: &[u8]) -> Split
     ensures { λ r. ⌜ (r .end ≤ length (now (lists .entry))) × (r .next ≤ length (now (lists .entry))) ⌝ }
 {
     let slash = find(lists, 0, b'/');
     if slash == lists.len() {
-        return Split {
-            more: false,
-            end: slash,
-            next: slash,
-        };
+        return unsplit(slash);
     }
     if slash == 0 {
-        return Split {
-            more: false,
-            end: slash,
-            next: slash,
-        };
+        return unsplit(slash);
     }
     let end = slash - 1;
     if lists[end] != b' ' {
-        return Split {
-            more: false,
-            end: slash,
-            next: slash,
-        };
+        return unsplit(slash);
     }
     Split {
         more: true,
