@@ -2,7 +2,7 @@
 """Prints the requests of crates/replay/stdin, the same ones at every run."""
 import sys
 
-sys.dont_write_bytecode = True
+sys.dont_write_bytecode = True  # the repository stays as it is
 
 from lists import arithmetic, costs, refusals, trees, values, widths
 from lists.common import Random
