@@ -67,8 +67,8 @@ module _ (ws : List ℕ) where
     right-below = record {
       rest = f .rest;
       words =
-        tail-drop (length (encode l)) (tail 2 ws) ∙ ap (drop (length (encode l))) children-are
-        ∙ drop-at (encode l) (encode r ++ f .rest) (length (encode l)) refl;
+          tail-drop (length (encode l)) (tail 2 ws) ∙ ap (drop (length (encode l))) children-are
+          ∙ drop-at (encode l) (encode r ++ f .rest) (length (encode l)) refl;
       operands = and-yes (operandsOk l) (operandsOk r) (f .operands) .1;
     }
 
@@ -204,9 +204,11 @@ module _ (ws : List ℕ) (a : Arity) (e : arityOutcome a ≡ arityOf (getD ws 0 
   module _ (n : ℕ) (s : Spans (tail 2 ws) n) where
     pub unary-spans : a ≡ One → Spans ws (n + 2)
     unfolding encode
-    unary-spans g = record { spans = λ t f.
-      let u = unary-node ws a e t g f in
-      omega (arith, s .spans (u .child) (u .below), ap (λ (v : Expr). length (encode v)) (u .is)) }
+    unary-spans g = record {
+      spans = λ t f.
+          let u = unary-node ws a e t g f in
+          omega (arith, s .spans (u .child) (u .below), ap (λ (v : Expr). length (encode v)) (u .is));
+    }
 
     -- what the right child is, where the left one's words end
     module _ (g : a ≡ Two) (t : Expr) (f : Front ws t) where
@@ -218,10 +220,17 @@ module _ (ws : List ℕ) (a : Arity) (e : arityOutcome a ≡ arityOf (getD ws 0 
     module _ (m : ℕ) (r : Spans (tail n (tail 2 ws)) m) (g : a ≡ Two) where
       pub binary-spans : Spans ws (n + m + 2)
       unfolding encode
-      binary-spans = record { spans = λ t f.
-        let b = binary-node ws a e t g f in
-        omega (arith, s .spans (b .left) (b .left-below), r .spans (b .right) (right-front g t f),
-        ap (λ (v : Expr). length (encode v)) (b .is), length-append (encode (b .left)) (encode (b .right))) }
+      binary-spans = record {
+        spans = λ t f.
+            let b = binary-node ws a e t g f in
+            omega (
+              arith,
+              s .spans (b .left) (b .left-below),
+              r .spans (b .right) (right-front g t f),
+              ap (λ (v : Expr). length (encode v)) (b .is),
+              length-append (encode (b .left)) (encode (b .right)),
+            );
+      }
 
 -- the number of words that a tree takes fits in a word, as they are in the lent list
 module _ (ws : List ℕ) (s : Starts ws) (h : length ws < 2 ^ 64) where

@@ -145,6 +145,8 @@ module _ (ws : List ℕ) (a : Arity) (e : arityOutcome a ≡ arityOf (getD ws 0 
       → ((k : Binary) (u v : Expr) → getD ws 0 0 ≡ binaryNumber k → x ≡ computeCost u → y ≡ computeCost v → c ≡ computeCost (binary k u v)) → Gives computeCost c t
   binary-case l m x y g p q h =
       let n = binary-node ws a e t g f in
-      record { is =
-        h (n .kind) (n .left) (n .right) (n .number-is) (p .holds (n .left) (n .left-below) .is) (q .holds (n .right) (right-front ws a e l (p .spans) g t f) .is)
-        ∙ ap computeCost (sym (n .is)) }
+      record {
+        is =
+            h (n .kind) (n .left) (n .right) (n .number-is) (p .holds (n .left) (n .left-below) .is) (q .holds (n .right) (right-front ws a e l (p .spans) g t f) .is)
+            ∙ ap computeCost (sym (n .is));
+      }

@@ -10,7 +10,6 @@ ghost use Rattle.expr.specs.Front.{Starts, Read, Gives};
 ghost use Rattle.expr_cost.specs.ExprCost.{isNonlinear, ownWeight, computeCost, isBetter};
 ghost use Rattle.expr_cost.specs.Contracts.{Small};
 ghost use Rattle.expr_cost.specs.Answers.{costOutcome};
-
 use expr::Arity;
 use expr::Counted;
 use expr::kind;

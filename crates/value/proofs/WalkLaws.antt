@@ -49,9 +49,11 @@ module _ (ws : List ℕ) (a : Arity) (e : arityOutcome a ≡ arityOf (getD ws 0 
       → Gives (valued w σ) v t
   binary-given l m left right g h i j =
       let n = binary-node ws a e t g f in
-      record { is =
-        j σ (n .kind) (n .left) (n .right) (n .number-is) (h .holds (n .left) (n .left-below) .is) (i .holds (n .right) (right-front ws a e l (h .spans) g t f) .is)
-        ∙ ap (valued w σ) (sym (n .is)) }
+      record {
+        is =
+            j σ (n .kind) (n .left) (n .right) (n .number-is) (h .holds (n .left) (n .left-below) .is) (i .holds (n .right) (right-front ws a e l (h .spans) g t f) .is)
+            ∙ ap (valued w σ) (sym (n .is));
+      }
 
 -- ---- the entry check
 

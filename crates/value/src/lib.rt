@@ -10,7 +10,6 @@ ghost use Rattle.expr.specs.Answers.{countedOutcome};
 ghost use Rattle.expr.specs.Front.{Starts, Read, Gives};
 ghost use Rattle.value.specs.Value.{unaryValue, binaryValue, oneWidth, valueAt};
 ghost use Rattle.value.specs.Answers.{valueOutcome, valued};
-
 use expr::Arity;
 use expr::Counted;
 use expr::Verdict;

@@ -78,7 +78,7 @@ module _ (widths : List ℕ) (d kind w : ℕ) (v : Validity) (own below rule : O
       record {
         width-is = own-is;
         validity-is = node-valid (unary k t) (validateWidths widths d t andThen (λ x. unaryRule k (checkedWidthOf widths d t))) own-is
-          (i ∙ ap₂ (λ (y z : Outcome Unit). y andThen (λ x. z)) (c .validity-is) (h k e f) ∙ asked widths d t (child .width) (unaryRule k) (c .width-is));
+            (i ∙ ap₂ (λ (y z : Outcome Unit). y andThen (λ x. z)) (c .validity-is) (h k e f) ∙ asked widths d t (child .width) (unaryRule k) (c .width-is));
       }
 
   pub binary-widths : (after : Outcome Unit) (left right : Widths) (k : Binary) (t u : Expr) → kind ≡ binaryNumber k → WidthsOf widths d left t → WidthsOf widths d right u
@@ -90,12 +90,12 @@ module _ (widths : List ℕ) (d kind w : ℕ) (v : Validity) (own below rule : O
   unfolding checkedWidthOf validateWidths
   binary-widths after left right k t u e a b j i g h =
       let own-is : ranged w ≡ checkedWidthOf widths d (binary k t u) =
-        g k e ∙ ap₂ (λ (x y : Outcome ℕ). binaryWidth k x y andThen ranged) (a .width-is) (b .width-is) in
+      g k e ∙ ap₂ (λ (x y : Outcome ℕ). binaryWidth k x y andThen ranged) (a .width-is) (b .width-is) in
       let after-is : after ≡ (validateWidths widths d u andThen (λ x. binaryRule k (accepted (left .width)) (checkedWidthOf widths d u))) =
-        i ∙ ap₂ (λ (y z : Outcome Unit). y andThen (λ x. z)) (b .validity-is) (h k e) ∙ asked widths d u (right .width) (binaryRule k (accepted (left .width))) (b .width-is) in
+      i ∙ ap₂ (λ (y z : Outcome Unit). y andThen (λ x. z)) (b .validity-is) (h k e) ∙ asked widths d u (right .width) (binaryRule k (accepted (left .width))) (b .width-is) in
       record {
         width-is = own-is;
         validity-is = node-valid (binary k t u) _ own-is
-          (j ∙ ap₂ (λ (y z : Outcome Unit). y andThen (λ x. z)) (a .validity-is) after-is
-          ∙ asked widths d t (left .width) (λ o. validateWidths widths d u andThen (λ x. binaryRule k o (checkedWidthOf widths d u))) (a .width-is));
+            (j ∙ ap₂ (λ (y z : Outcome Unit). y andThen (λ x. z)) (a .validity-is) after-is
+            ∙ asked widths d t (left .width) (λ o. validateWidths widths d u andThen (λ x. binaryRule k o (checkedWidthOf widths d u))) (a .width-is));
       }

@@ -93,7 +93,9 @@ module _ (ws : List ℕ) (a : Arity) (e : arityOutcome a ≡ arityOf (getD ws 0 
   unfolding isUniformWidth
   binary-uniform l m c d g h i j =
       let n = binary-node ws a e t g f in
-      record { is =
-        j (n .kind) (n .number-is)
-        ∙ ap₂ (λ (x y : Bool). binaryKeeps (n .kind) && (x && y)) (h .holds (n .left) (n .left-below) .is) (i .holds (n .right) (right-front ws a e l (h .spans) g t f) .is)
-        ∙ ap (isUniformWidth widths w) (sym (n .is)) }
+      record {
+        is =
+            j (n .kind) (n .number-is)
+            ∙ ap₂ (λ (x y : Bool). binaryKeeps (n .kind) && (x && y)) (h .holds (n .left) (n .left-below) .is) (i .holds (n .right) (right-front ws a e l (h .spans) g t f) .is)
+            ∙ ap (isUniformWidth widths w) (sym (n .is));
+      }

@@ -12,7 +12,6 @@ ghost use Rattle.expr.specs.Answers.{verdictOutcome};
 ghost use Rattle.expr.specs.Front.{Starts, Read, Gives};
 ghost use Rattle.width.specs.Width.{supported, ranged, valid, unaryWidth, binaryWidth, checkedWidthOf, widthOf, unaryRule, binaryRule, validateWidths, unaryKeeps, binaryKeeps, isUniformWidth};
 ghost use Rattle.width.specs.Answers.{widthOutcome, validityOutcome, WidthsOf};
-
 use expr::Arity;
 use expr::Counted;
 use expr::Verdict;
@@ -190,10 +189,10 @@ fn binary_widths(kind: u64, left: Widths, right: Widths) -> Widths
     let left_validity = left.validity;
     let right_validity = right.validity;
     let after_left = first_refusal(right_validity, rule);
-    let below = first_refusal(left_validity, after_left);
+    let children = first_refusal(left_validity, after_left);
     Widths {
         width,
-        validity: first_refusal(own_validity(width), below),
+        validity: first_refusal(own_validity(width), children),
     }
 }
 
