@@ -10,9 +10,13 @@ use mir.Syntax.{w32}
 use mir.Val.{Fits}
 use borrow.Author.Tests.{not-true, not-false, eq-eqb, ne-eqb, lt-ltb, le-ltb}
 use Rattle.arith.specs.Choice.{if_then_else_}
+use Rattle.expr.specs.declared.refusal.Refusal.the-variants.{UnsupportedWidth}
 use Rattle.expr.specs.Outcome.{Outcome, refused, accepted, _andThen_}
 use Rattle.expr.specs.OutcomeLaws.{then-accepted, then-refused}
 use Rattle.expr.specs.Expr.{Leaf, Constant, Variable, Unary, Not, Neg, Shr, ZExt, SExt, Trunc, Binary, Add, Mul, And, Or, Xor, Concat, leaf, leafNumber, leafOperand, unaryNumber, unaryOperand, binaryNumber}
+use Rattle.width.specs.declared.Validity.{Validity}
+use Rattle.width.specs.declared.Validity.the-variants.{Refused}
+use Rattle.width.specs.Answers.{Over}
 use Rattle.width.specs.WidthLaws.{supported-is}
 use Rattle.width.specs.Width.{carrying, supported, ranged, valid, unaryWidth, binaryWidth, checkedWidthOf, unaryRule, binaryRule}
 
@@ -41,11 +45,11 @@ module _ (w : ℕ) where
       go false e = let r : ranged w ≡ refused (carrying 10 w 0) = rw e in then-refused r ranged ∙ sym r
 
   module _ (b : Bool) (e : b ≡ supported w) where
-    pub own-refused : not b ≡ true → refused (carrying 10 w 0) ≡ (ranged w andThen (λ v. valid))
-    own-refused f = sym (then-refused (ranged-no b e f) _)
+    pub own-refused : (below : Validity) → not b ≡ true → Over w below (Refused (UnsupportedWidth w))
+    own-refused below f = record { is = sym (then-refused (ranged-no b e f) _) }
 
-    pub own-accepted : not b ≡ false → valid ≡ (ranged w andThen (λ v. valid))
-    own-accepted f = sym (then-accepted (ranged-yes b e f) _)
+    pub own-accepted : (below : Validity) → not b ≡ false → Over w below below
+    own-accepted below f = record { is = sym (then-accepted (ranged-yes b e f) _) }
 
 -- ---- leaves
 

@@ -1,4 +1,4 @@
 pub mod KindLaws
 pub mod NodeLaws
 pub mod WalkLaws
-pub mod UniformLaws
+pub mod OneWidthLaws

@@ -6,7 +6,6 @@ use Prim.Native.Nat.{ℕ}
 use native.Mathlib.Omega.{arith}
 use Rattle.expr.specs.declared.refusal.Reason.{Reason}
 use Rattle.expr.specs.declared.refusal.Refusal.{Refusal}
-use Rattle.expr.specs.Refusals.{reasonOf}
 use Rattle.expr.specs.Outcome.{Outcome, refused, accepted, _andThen_}
 use Rattle.expr.specs.OutcomeLaws.{then-refused}
 use Rattle.expr.specs.Expr.{Leaf, Unary, Binary, Expr, leaf, unary, binary, leafNumber, leafOperand, unaryNumber, unaryOperand, binaryNumber}
@@ -14,21 +13,24 @@ use Rattle.width.specs.declared.Widths.{Widths}
 use Rattle.width.specs.declared.Validity.{Validity}
 use Rattle.width.specs.declared.Validity.the-variants.{Valid, Refused}
 use Rattle.width.specs.Width.{carrying, supported, ranged, valid, unaryWidth, binaryWidth, checkedWidthOf, unaryRule, binaryRule, validateWidths}
-use Rattle.width.specs.Answers.{validityOutcome, WidthsOf}
+use Rattle.width.specs.Answers.{validityOutcome, First, FirstOfThree, Over, WidthsOf}
 
 -- the first of two refusals
-module _ (a : Validity) where
-  pub first-refused : (r : Refusal) (f : Unit → Outcome Unit) → a ≡ Refused r → refused (reasonOf r) ≡ (validityOutcome a andThen f)
-  first-refused r f e = sym (ap (λ (x : Validity). validityOutcome x andThen f) e)
+module _ (a b : Validity) where
+  pub first-refused : (r : Refusal) → a ≡ Refused r → First a b (Refused r)
+  first-refused r e = record { is = sym (ap (λ (x : Validity). validityOutcome x andThen (λ v. validityOutcome b)) e) }
 
-  pub first-valid : (o : Outcome Unit) → a ≡ Valid → o ≡ (validityOutcome a andThen (λ v. o))
-  first-valid o e = sym (ap (λ (x : Validity). validityOutcome x andThen (λ v. o)) e)
+  pub first-valid : a ≡ Valid → First a b b
+  first-valid e = record { is = sym (ap (λ (x : Validity). validityOutcome x andThen (λ v. validityOutcome b)) e) }
+
+pub three-first : (a b c after r : Validity) → First a after r → First b c after → FirstOfThree a b c r
+three-first a b c after r p q = record { is = p .is ∙ ap (λ (o : Outcome Unit). validityOutcome a andThen (λ v. o)) (q .is) }
 
 pub leaf-widths : (widths : List ℕ) (d kind operand : ℕ) (k : Leaf) (w : ℕ) (v : Validity) → kind ≡ leafNumber k → operand ≡ leafOperand k
     → ((j : Leaf) → kind ≡ leafNumber j → operand ≡ leafOperand j → ranged w ≡ checkedWidthOf widths d (leaf j))
-    → validityOutcome v ≡ (ranged w andThen (λ x. valid)) → WidthsOf widths d (record { width = w; validity = v }) (leaf k)
+    → Over w Valid v → WidthsOf widths d (record { width = w; validity = v }) (leaf k)
 unfolding validateWidths
-leaf-widths widths d kind operand k w v e f g h = record { width-is = g k e f; validity-is = h ∙ ap (λ (o : Outcome ℕ). o andThen (λ x. valid)) (g k e f) }
+leaf-widths widths d kind operand k w v e f g h = record { width-is = g k e f; validity-is = h .is ∙ ap (λ (o : Outcome ℕ). o andThen (λ x. valid)) (g k e f) }
 
 -- where the widths of a tree are consistent, it has one
 module _ (widths : List ℕ) (d : ℕ) where
@@ -55,22 +57,14 @@ module _ (widths : List ℕ) (d : ℕ) where
       go (refused r) g = refl
       go (accepted u) g = ap f (valid-width t w g e)
 
--- the node's own width, and then what is below it
-own-then : (o : Outcome ℕ) (below : Outcome Unit) → ((o andThen (λ w. valid)) andThen (λ v. below)) ≡ (o andThen (λ w. below))
-own-then (refused r) below = refl
-own-then (accepted w) below = refl
-
-module _ (widths : List ℕ) (d kind w : ℕ) (v : Validity) (own below rule : Outcome Unit)
-    (q : validityOutcome v ≡ (own andThen (λ x. below))) (p : own ≡ (ranged w andThen (λ x. valid))) where
-  node-valid : (t : Expr) (o : Outcome Unit) → ranged w ≡ checkedWidthOf widths d t → below ≡ o → validityOutcome v ≡ (checkedWidthOf widths d t andThen (λ x. o))
-  node-valid t o e f =
-      q ∙ ap (λ (y : Outcome Unit). y andThen (λ x. below)) p ∙ own-then (ranged w) (below)
-      ∙ ap₂ (λ (y : Outcome ℕ) (z : Outcome Unit). y andThen (λ x. z)) e f
+module _ (widths : List ℕ) (d kind w : ℕ) (below rule v : Validity) (q : Over w below v) where
+  node-valid : (t : Expr) (o : Outcome Unit) → ranged w ≡ checkedWidthOf widths d t → validityOutcome below ≡ o → validityOutcome v ≡ (checkedWidthOf widths d t andThen (λ x. o))
+  node-valid t o e f = q .is ∙ ap₂ (λ (y : Outcome ℕ) (z : Outcome Unit). y andThen (λ x. z)) e f
 
   pub unary-widths : (operand : ℕ) (child : Widths) (k : Unary) (t : Expr) → kind ≡ unaryNumber k → operand ≡ unaryOperand k → WidthsOf widths d child t
-      → below ≡ (validityOutcome (child .validity) andThen (λ x. rule))
+      → First (child .validity) rule below
       → ((j : Unary) → kind ≡ unaryNumber j → operand ≡ unaryOperand j → ranged w ≡ (unaryWidth j (ranged (child .width)) andThen ranged))
-      → ((j : Unary) → kind ≡ unaryNumber j → operand ≡ unaryOperand j → rule ≡ unaryRule j (accepted (child .width)))
+      → ((j : Unary) → kind ≡ unaryNumber j → operand ≡ unaryOperand j → validityOutcome rule ≡ unaryRule j (accepted (child .width)))
       → WidthsOf widths d (record { width = w; validity = v }) (unary k t)
   unfolding checkedWidthOf validateWidths
   unary-widths operand child k t e f c i g h =
@@ -78,24 +72,25 @@ module _ (widths : List ℕ) (d kind w : ℕ) (v : Validity) (own below rule : O
       record {
         width-is = own-is;
         validity-is = node-valid (unary k t) (validateWidths widths d t andThen (λ x. unaryRule k (checkedWidthOf widths d t))) own-is
-            (i ∙ ap₂ (λ (y z : Outcome Unit). y andThen (λ x. z)) (c .validity-is) (h k e f) ∙ asked widths d t (child .width) (unaryRule k) (c .width-is));
+            (i .is ∙ ap₂ (λ (y z : Outcome Unit). y andThen (λ x. z)) (c .validity-is) (h k e f) ∙ asked widths d t (child .width) (unaryRule k) (c .width-is));
       }
 
-  pub binary-widths : (after : Outcome Unit) (left right : Widths) (k : Binary) (t u : Expr) → kind ≡ binaryNumber k → WidthsOf widths d left t → WidthsOf widths d right u
-      → below ≡ (validityOutcome (left .validity) andThen (λ x. after))
-      → after ≡ (validityOutcome (right .validity) andThen (λ x. rule))
+  pub binary-widths : (left right : Widths) (k : Binary) (t u : Expr) → kind ≡ binaryNumber k → WidthsOf widths d left t → WidthsOf widths d right u
+      → FirstOfThree (left .validity) (right .validity) rule below
       → ((j : Binary) → kind ≡ binaryNumber j → ranged w ≡ (binaryWidth j (ranged (left .width)) (ranged (right .width)) andThen ranged))
-      → ((j : Binary) → kind ≡ binaryNumber j → rule ≡ binaryRule j (accepted (left .width)) (accepted (right .width)))
+      → ((j : Binary) → kind ≡ binaryNumber j → validityOutcome rule ≡ binaryRule j (accepted (left .width)) (accepted (right .width)))
       → WidthsOf widths d (record { width = w; validity = v }) (binary k t u)
   unfolding checkedWidthOf validateWidths
-  binary-widths after left right k t u e a b j i g h =
+  binary-widths left right k t u e a b i g h =
       let own-is : ranged w ≡ checkedWidthOf widths d (binary k t u) =
       g k e ∙ ap₂ (λ (x y : Outcome ℕ). binaryWidth k x y andThen ranged) (a .width-is) (b .width-is) in
-      let after-is : after ≡ (validateWidths widths d u andThen (λ x. binaryRule k (accepted (left .width)) (checkedWidthOf widths d u))) =
-      i ∙ ap₂ (λ (y z : Outcome Unit). y andThen (λ x. z)) (b .validity-is) (h k e) ∙ asked widths d u (right .width) (binaryRule k (accepted (left .width))) (b .width-is) in
+      let right-is : (validateWidths widths d u andThen (λ x. binaryRule k (accepted (left .width)) (accepted (right .width))))
+      ≡ (validateWidths widths d u andThen (λ x. binaryRule k (accepted (left .width)) (checkedWidthOf widths d u))) =
+      asked widths d u (right .width) (binaryRule k (accepted (left .width))) (b .width-is) in
       record {
         width-is = own-is;
         validity-is = node-valid (binary k t u) _ own-is
-            (j ∙ ap₂ (λ (y z : Outcome Unit). y andThen (λ x. z)) (a .validity-is) after-is
+            (i .is ∙ (λ j. a .validity-is j andThen (λ x. b .validity-is j andThen (λ y. h k e j)))
+            ∙ ap (λ (o : Outcome Unit). validateWidths widths d t andThen (λ x. o)) right-is
             ∙ asked widths d t (left .width) (λ o. validateWidths widths d u andThen (λ x. binaryRule k o (checkedWidthOf widths d u))) (a .width-is));
       }

@@ -3,7 +3,7 @@ use mathlib.Core.Path.{_≡_}
 use mathlib.Core.List.{List}
 use Prim.Native.Nat.{ℕ}
 use Rattle.expr.specs.Refusals.{reasonOf}
-use Rattle.expr.specs.Outcome.{Outcome, refused, accepted}
+use Rattle.expr.specs.Outcome.{Outcome, refused, accepted, _andThen_}
 use Rattle.expr.specs.Expr.{Expr}
 use Rattle.width.specs.Width.{ranged, valid, checkedWidthOf, validateWidths}
 use Rattle.width.specs.declared.Widths.{Widths}
@@ -21,6 +21,18 @@ widthOutcome (width.Refused r) = refused (reasonOf r)
 abbrev pub validityOutcome : Validity → Outcome Unit
 validityOutcome validity.Valid = valid
 validityOutcome (validity.Refused r) = refused (reasonOf r)
+
+-- r is the first refusal of a and b
+pub record First (a b r : Validity) : Type 0 where
+  pub is : validityOutcome r ≡ (validityOutcome a andThen (λ v. validityOutcome b))
+
+-- r is the first refusal of a, b and c
+pub record FirstOfThree (a b c r : Validity) : Type 0 where
+  pub is : validityOutcome r ≡ (validityOutcome a andThen (λ v. validityOutcome b andThen (λ v′. validityOutcome c)))
+
+-- r is the refusal of a node of width w with this below it: its own width goes first
+pub record Over (w : ℕ) (below r : Validity) : Type 0 where
+  pub is : validityOutcome r ≡ (ranged w andThen (λ v. validityOutcome below))
 
 -- what the walk finds of a tree is its width and whether its widths are consistent
 pub record WidthsOf (widths : List ℕ) (default : ℕ) (found : Widths) (t : Expr) : Type 0 where

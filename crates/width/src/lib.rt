@@ -10,8 +10,8 @@ ghost use Rattle.expr.specs.Outcome.{accepted, mapped, _andThen_};
 ghost use Rattle.expr.specs.Parse.{parse};
 ghost use Rattle.expr.specs.Answers.{verdictOutcome};
 ghost use Rattle.expr.specs.Front.{Starts, Read, Gives};
-ghost use Rattle.width.specs.Width.{supported, ranged, valid, unaryWidth, binaryWidth, checkedWidthOf, widthOf, unaryRule, binaryRule, validateWidths, unaryKeeps, binaryKeeps, isUniformWidth};
-ghost use Rattle.width.specs.Answers.{widthOutcome, validityOutcome, WidthsOf};
+ghost use Rattle.width.specs.Width.{supported, ranged, unaryWidth, binaryWidth, checkedWidthOf, widthOf, unaryRule, binaryRule, validateWidths, unaryKeeps, binaryKeeps, isUniformWidth};
+ghost use Rattle.width.specs.Answers.{widthOutcome, validityOutcome, First, FirstOfThree, Over, WidthsOf};
 use expr::Arity;
 use expr::Counted;
 use expr::Verdict;
@@ -107,15 +107,6 @@ fn binary_width(kind: u64, left: u32, right: u32) -> u32
     left
 }
 
-fn own_validity(width: u32) -> Validity
-    ensures { λ r. ⌜ validityOutcome r ≡ (ranged width andThen (λ w. valid)) ⌝ }
-{
-    if !is_supported(width) {
-        return Validity::Refused(Refusal::UnsupportedWidth(width));
-    }
-    Validity::Valid
-}
-
 // What a cast to `target` bits asks of its child.
 fn unary_rule(kind: u64, target: u32, child: u32) -> Validity
     ensures { λ r. ⌜ ((k : Unary) → kind ≡ unaryNumber k → target ≡ unaryOperand k → validityOutcome r ≡ unaryRule k (accepted child)) ⌝ }
@@ -150,12 +141,30 @@ fn binary_rule(kind: u64, left: u32, right: u32) -> Validity
 
 // The first refusal of the two.
 fn first_refusal(a: Validity, b: Validity) -> Validity
-    ensures { λ r. ⌜ validityOutcome r ≡ (validityOutcome a andThen (λ v. validityOutcome b)) ⌝ }
+    ensures { λ r. ⌜ First a b r ⌝ }
 {
     match a {
         Validity::Refused(r) => Validity::Refused(r),
         Validity::Valid => b,
     }
+}
+
+// The first refusal of the three.
+fn first_of_three(a: Validity, b: Validity, c: Validity) -> Validity
+    ensures { λ r. ⌜ FirstOfThree a b c r ⌝ }
+{
+    let after = first_refusal(b, c);
+    first_refusal(a, after)
+}
+
+// A node's own width goes before what is below it.
+fn node_validity(width: u32, below: Validity) -> Validity
+    ensures { λ r. ⌜ Over width below r ⌝ }
+{
+    if !is_supported(width) {
+        return Validity::Refused(Refusal::UnsupportedWidth(width));
+    }
+    below
 }
 
 fn leaf_widths(kind: u64, operand: u64, var_widths: &[u32], default_w: u32) -> Widths
@@ -164,7 +173,7 @@ fn leaf_widths(kind: u64, operand: u64, var_widths: &[u32], default_w: u32) -> W
     let width = leaf_width(kind, operand, var_widths, default_w);
     Widths {
         width,
-        validity: own_validity(width),
+        validity: node_validity(width, Validity::Valid),
     }
 }
 
@@ -174,10 +183,10 @@ fn unary_widths(kind: u64, operand: u32, child: Widths) -> Widths
     let width = unary_width(kind, operand, child.width);
     let rule = unary_rule(kind, operand, child.width);
     let child_validity = child.validity;
-    let below = first_refusal(child_validity, rule);
+    let after_width = first_refusal(child_validity, rule);
     Widths {
         width,
-        validity: first_refusal(own_validity(width), below),
+        validity: node_validity(width, after_width),
     }
 }
 
@@ -188,11 +197,10 @@ fn binary_widths(kind: u64, left: Widths, right: Widths) -> Widths
     let rule = binary_rule(kind, left.width, right.width);
     let left_validity = left.validity;
     let right_validity = right.validity;
-    let after_left = first_refusal(right_validity, rule);
-    let children = first_refusal(left_validity, after_left);
+    let below = first_of_three(left_validity, right_validity, rule);
     Widths {
         width,
-        validity: first_refusal(own_validity(width), children),
+        validity: node_validity(width, below),
     }
 }
 

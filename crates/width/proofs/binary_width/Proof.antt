@@ -11,5 +11,5 @@ binary-width-spec =
     tie.close
     (tie.spec
     (λ c κs. search rules)
-    (λ c k e. search rules)
+    (λ c k e. concat-width _ _ _ k _ (search needs) e (search needs))
     (λ c k e. search rules))

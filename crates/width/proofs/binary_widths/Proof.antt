@@ -14,8 +14,4 @@ binary-widths-spec =
     (λ c κs. search rules)
     (λ c κs. search rules)
     (λ c κs. search rules)
-    (λ c κs. search rules)
-    (λ c κs. search rules)
-    (λ c widths d k t u e a b. binary-widths widths d _ _ _ _ _ _ (c .first-refusal3 .ensures) (c .before .own-validity .ensures) _ _ _ k t u e a b
-    (c .before .before .first-refusal2 .ensures) (c .before .before .before .first-refusal .ensures)
-    (c .before .before .before .before .before .binary-width .ensures) (c .before .before .before .before .binary-rule .ensures)))
+    (λ c widths d k t u e a b. search rules))

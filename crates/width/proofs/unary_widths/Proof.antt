@@ -14,6 +14,4 @@ unary-widths-spec =
     (λ c κs. search rules)
     (λ c κs. search rules)
     (λ c κs. search rules)
-    (λ c κs. search rules)
-    (λ c widths d k t e f a. unary-widths widths d _ _ _ _ _ _ (c .first-refusal2 .ensures) (c .before .own-validity .ensures) _ _ k t e f a
-    (c .before .before .first-refusal .ensures) (c .before .before .before .before .unary-width .ensures) (c .before .before .before .unary-rule .ensures)))
+    (λ c widths d k t e f a. search rules))
