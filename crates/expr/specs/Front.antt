@@ -1,4 +1,5 @@
--- Words that begin with those of a tree: what a walk over a part of the lent words goes by. Definitions only.
+-- Words that begin with those of a tree. The private walks over parts of the lent words, here and in other crates, promise and require
+-- this; no public promise rests on it. Definitions only.
 use mathlib.Core.Path.{_≡_}
 use mathlib.Core.List.{List, _++_}
 use Prim.Native.Nat.{ℕ}

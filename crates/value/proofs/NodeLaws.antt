@@ -18,7 +18,7 @@ use Rattle.expr.specs.Expr.{Leaf, Constant, Variable, Unary, Not, Neg, Shr, ZEx
 use Rattle.value.specs.declared.Valued.{Valued}
 use Rattle.value.specs.Value.{unaryValue, binaryValue, value, conditions, isLent}
 use Rattle.value.specs.ValueLaws.{value-lt}
-use Rattle.value.specs.Answers.{valued}
+use Rattle.value.specs.Contracts.{valued}
 
 -- ---- leaves
 

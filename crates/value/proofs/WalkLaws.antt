@@ -29,7 +29,7 @@ use Rattle.width.specs.WidthLaws.{in-range, too-narrow, too-wide}
 use Rattle.value.specs.declared.Valued.{Valued}
 use Rattle.value.specs.Value.{value, isLent, uniform, oneWidth, valueAt}
 use Rattle.value.specs.ValueLaws.{OneWidth, one-width-sound}
-use Rattle.value.specs.Answers.{valued}
+use Rattle.value.specs.Contracts.{valued}
 
 -- ---- the walk
 

@@ -1,3 +1,4 @@
 pub mod Value
 pub mod Answers
+pub mod Contracts
 pub mod ValueLaws

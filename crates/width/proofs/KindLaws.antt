@@ -16,7 +16,7 @@ use Rattle.expr.specs.OutcomeLaws.{then-accepted, then-refused}
 use Rattle.expr.specs.Expr.{Leaf, Constant, Variable, Unary, Not, Neg, Shr, ZExt, SExt, Trunc, Binary, Add, Mul, And, Or, Xor, Concat, leaf, leafNumber, leafOperand, unaryNumber, unaryOperand, binaryNumber}
 use Rattle.width.specs.declared.Validity.{Validity}
 use Rattle.width.specs.declared.Validity.the-variants.{Refused}
-use Rattle.width.specs.Answers.{Over}
+use Rattle.width.specs.Contracts.{Over}
 use Rattle.width.specs.WidthLaws.{supported-is}
 use Rattle.width.specs.Width.{carrying, supported, ranged, valid, unaryWidth, binaryWidth, checkedWidthOf, unaryRule, binaryRule}
 

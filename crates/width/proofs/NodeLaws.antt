@@ -13,7 +13,8 @@ use Rattle.width.specs.declared.Widths.{Widths}
 use Rattle.width.specs.declared.Validity.{Validity}
 use Rattle.width.specs.declared.Validity.the-variants.{Valid, Refused}
 use Rattle.width.specs.Width.{carrying, supported, ranged, valid, unaryWidth, binaryWidth, checkedWidthOf, unaryRule, binaryRule, validateWidths}
-use Rattle.width.specs.Answers.{validityOutcome, First, FirstOfThree, Over, WidthsOf}
+use Rattle.width.specs.Answers.{validityOutcome}
+use Rattle.width.specs.Contracts.{First, FirstOfThree, Over, WidthsOf}
 
 -- the first of two refusals
 module _ (a b : Validity) where

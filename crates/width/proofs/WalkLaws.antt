@@ -22,7 +22,8 @@ use Rattle.expr.specs.TailLaws.{tail}
 use Rattle.expr.specs.FrontLaws.{leaf-node, unary-node, binary-node, right-front, parse-front, Whole, whole}
 use Rattle.width.specs.declared.Widths.{Widths}
 use Rattle.width.specs.Width.{carrying, supported, ranged, checkedWidthOf, orZero, widthOf, validateWidths}
-use Rattle.width.specs.Answers.{validityOutcome, WidthsOf}
+use Rattle.width.specs.Answers.{validityOutcome}
+use Rattle.width.specs.Contracts.{WidthsOf}
 use Rattle.width.proofs.KindLaws.{ranged-yes, ranged-no}
 
 -- the operand of a node with one child has 32 bits
