@@ -4,7 +4,7 @@ import sys
 
 sys.dont_write_bytecode = True  # the repository stays as it is
 
-from lists import arithmetic, costs, refusals, trees, values, widths
+from lists import arithmetic, costs, readme, refusals, trees, values, widths
 from lists.common import Random
 
 
@@ -18,7 +18,8 @@ def requests():
             + trees.damaged_trees(Random(9)) + trees.rubbish(Random(10))
             + trees.first_subtrees(Random(11)) + trees.unlooked_at()
             + trees.equal_lists(Random(12))
-            + widths.requests(Random) + costs.requests(Random) + values.requests(Random) + refusals.requests(Random))
+            + widths.requests(Random) + costs.requests(Random) + values.requests(Random) + refusals.requests(Random)
+            + readme.requests())
 
 
 for line in dict.fromkeys(requests()):
