@@ -31,7 +31,7 @@ binaryValue w Or x y = bvor x y
 binaryValue w Xor x y = bvxor x y
 binaryValue w Concat x y = 0
 
--- the value of a tree at width w and a setting σ: a Constant is its operand modulo 2 ^ w, a Variable its lent word modulo 2 ^ w
+-- the value of a tree at width w and a setting σ; of a Constant's operand and of a Variable's lent word the low w bits count
 unfoldable pub value : ℕ → List ℕ → Expr → ℕ
 value w σ (leaf (Constant c)) = c % 2 ^ w
 value w σ (leaf (Variable i)) = getD σ i 0 % 2 ^ w
@@ -53,7 +53,7 @@ isLent σ t = leb (conditions t) (length σ)
 abbrev pub uniform : List ℕ → ℕ → Expr → Outcome Expr
 uniform widths w t = if isUniformWidth widths w t then accepted t else refused (refusal 8)
 
--- document 01's tree of one width: none of the refusals 1 to 8 holds for the words at width w and the list of the variables' widths
+-- document 01's tree of one width, or the first of the refusals 1 to 8, at width w and a list of the variables' widths
 unfoldable pub oneWidth : List ℕ → ℕ → List ℕ → Outcome Expr
 oneWidth ws w widths = if supported w then parse ws andThen uniform widths w else refused (refusal 1)
 

@@ -1,5 +1,5 @@
-// The value of a tree of one width at a setting. A tree is of one width, as document 01 has it, where none of the refusals 1 to 8 holds
-// for it at the call's width and width list. A setting is a list of words that has one for each of the tree's variables, by its number.
+// The value of a tree of one width at a setting, both in document 01's sense: a call that gives the refusals 1 to 8 turns every other
+// tree down, at its width and its list of the variables' widths; and a setting lends each variable a word, by the variable's number.
 ghost use mathlib.Core.Path.{_≡_};
 ghost use mathlib.Core.Bool.{_&&_};
 ghost use mathlib.Core.List.{List};
