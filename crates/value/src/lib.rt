@@ -94,6 +94,7 @@ fn unary_valued(kind: u64, operand: u64, child: Valued, width: u32) -> Valued
     }
 }
 
+// A function of its own, so that the proof of its caller has one answer and not an arm for each operand.
 fn both(a: bool, b: bool) -> bool
     ensures { λ r. ⌜ r ≡ (a && b) ⌝ }
 {
