@@ -13,13 +13,13 @@ use Rattle.expr.specs.ExprUtils.{isConstantSubtree, hasVarDep}
 use Rattle.expr.specs.Parse.{parse}
 use Rattle.expr.specs.ParseLaws.{parse-sound}
 use Rattle.expr.specs.Answers.{countedOutcome, verdictOutcome}
-use Rattle.expr.specs.FrontLaws.{Whole, whole}
+use Rattle.expr.specs.FrontLaws.{IsTree, is-tree}
 use Rattle.expr.proofs.VariableLaws.{constant-is}
 
 pub dep-known : (ws : List ℕ) (x : Counted) (n : ℕ) (b : Bool) → countedOutcome x ≡ mapped nodes (parse ws) → x ≡ counted.Count n
     → ((t : Expr) → ws ≡ encode t → b ≡ hasVarDep t) → accepted b ≡ mapped hasVarDep (parse ws)
 dep-known ws x n b e g h =
-    let t : Whole ws = whole ws x n e g in
+    let t : IsTree ws = is-tree ws x n e g in
     ap accepted (h (t .tree) (parse-sound ws (t .tree) (t .is) .words)) ∙ sym (mapped-accepted (t .is) hasVarDep)
 
 -- the answer to one question is the other's, turned round

@@ -20,6 +20,12 @@ depth-pos (leaf k) = omega arith
 depth-pos (unary k t) = omega arith
 depth-pos (binary k l r) = omega arith
 
+pub depth-nodes : (t : Expr) → depth t ≤ nodes t
+unfolding depth nodes
+depth-nodes (leaf k) = omega arith
+depth-nodes (unary k t) = omega (arith, depth-nodes t)
+depth-nodes (binary k l r) = omega (arith, depth-nodes l, depth-nodes r)
+
 pub length-encode : (t : Expr) → length (encode t) ≡ 2 * nodes t
 unfolding encode nodes
 length-encode (leaf k) = refl

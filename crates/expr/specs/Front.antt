@@ -1,5 +1,5 @@
--- Words that begin with those of a tree. The private walks over parts of the lent words, here and in other crates, promise and require
--- this; no public promise rests on it. Definitions only.
+-- Words that begin with those of a tree. Private walks over parts of the lent words, in the crates above this one, promise and require
+-- it; no public promise rests on it. Definitions only.
 use mathlib.Core.Path.{_≡_}
 use mathlib.Core.List.{List, _++_}
 use Prim.Native.Nat.{ℕ}

@@ -151,6 +151,12 @@ module _ (ws : List ℕ) (a : Arity) (e : arityOutcome a ≡ arityOf (getD ws 0 
     right-below = right-below ws k l r f;
   }
 
+  -- the right child begins where the left one's words end
+  pub right-front : (n : ℕ) → Spans (tail 2 ws) n → (g : a ≡ Two) (t : Expr) (f : Front ws t) → Front (tail n (tail 2 ws)) (binary-node t g f .right)
+  right-front n s g t f =
+      let b = binary-node t g f in
+      subst (λ (i : ℕ). Front (tail i (tail 2 ws)) (b .right)) (sym (s .spans (b .left) (b .left-below))) (b .right-below)
+
 -- ---- the calls of a walk
 
 front-length : (ws : List ℕ) (t : Expr) → Front ws t → length (encode t) ≤ length ws
@@ -186,10 +192,7 @@ module _ (ws : List ℕ) (s : Starts ws) where
 
       module _ (n : ℕ) (l : Spans (tail 2 ws) n) where
         pub right-starts : Starts (tail n (tail 2 ws))
-        right-starts = record {
-          tree = here .right;
-          front = subst (λ (i : ℕ). Front (tail i (tail 2 ws)) (here .right)) (sym (l .spans (here .left) (here .left-below))) (here .right-below);
-        }
+        right-starts = record { tree = binary-node ws a e (s .tree) g (s .front) .right; front = right-front ws a e n l g (s .tree) (s .front) }
 
         pub left-within : n ≤ length (tail 2 ws)
         left-within = omega (arith, l .spans (here .left) (here .left-below), front-length (tail 2 ws) (here .left) (here .left-below))
@@ -210,13 +213,6 @@ module _ (ws : List ℕ) (a : Arity) (e : arityOutcome a ≡ arityOf (getD ws 0 
           omega (arith, s .spans (u .child) (u .below), ap (λ (v : Expr). length (encode v)) (u .is));
     }
 
-    -- what the right child is, where the left one's words end
-    module _ (g : a ≡ Two) (t : Expr) (f : Front ws t) where
-      pub right-front : Front (tail n (tail 2 ws)) (binary-node ws a e t g f .right)
-      right-front =
-          let b = binary-node ws a e t g f in
-          subst (λ (i : ℕ). Front (tail i (tail 2 ws)) (b .right)) (sym (s .spans (b .left) (b .left-below))) (b .right-below)
-
     module _ (m : ℕ) (r : Spans (tail n (tail 2 ws)) m) (g : a ≡ Two) where
       pub binary-spans : Spans ws (n + m + 2)
       unfolding encode
@@ -226,7 +222,7 @@ module _ (ws : List ℕ) (a : Arity) (e : arityOutcome a ≡ arityOf (getD ws 0 
             omega (
               arith,
               s .spans (b .left) (b .left-below),
-              r .spans (b .right) (right-front g t f),
+              r .spans (b .right) (right-front ws a e n s g t f),
               ap (λ (v : Expr). length (encode v)) (b .is),
               length-append (encode (b .left)) (encode (b .right)),
             );
@@ -267,23 +263,23 @@ parse-front ws t e =
     record { rest = []; words = a .words ∙ sym (append-nil (encode t)); operands = a .valid .operands }
 
 -- the words are those of a tree
-pub record Whole (ws : List ℕ) : Type 0 where
+pub record IsTree (ws : List ℕ) : Type 0 where
   pub tree : Expr
   pub is : parse ws ≡ accepted tree
 
 module _ (ws : List ℕ) (x : Counted) (n : ℕ) (e : countedOutcome x ≡ mapped nodes (parse ws)) (g : x ≡ counted.Count n) where
-  pub whole : Whole ws
-  whole = let m : Made nodes (parse ws) n = mapped-made nodes (parse ws) (ap countedOutcome (sym g) ∙ e) in record { tree = m .answer; is = m .was }
+  pub is-tree : IsTree ws
+  is-tree = let m : Made nodes (parse ws) n = mapped-made nodes (parse ws) (ap countedOutcome (sym g) ∙ e) in record { tree = m .answer; is = m .was }
 
-  pub whole-starts : Starts ws
-  whole-starts = record { tree = whole .tree; front = parse-front ws (whole .tree) (whole .is) }
+  pub tree-starts : Starts ws
+  tree-starts = record { tree = is-tree .tree; front = parse-front ws (is-tree .tree) (is-tree .is) }
 
-  pub whole-short : length ws ≤ 1024
-  whole-short = let a = parse-sound ws (whole .tree) (whole .is) in omega (arith, ap length (a .words), length-encode (whole .tree), a .valid .count)
+  pub tree-short : length ws ≤ 1024
+  tree-short = let a = parse-sound ws (is-tree .tree) (is-tree .is) in omega (arith, ap length (a .words), length-encode (is-tree .tree), a .valid .count)
 
   -- what a walk has answered of the tree at the front is the answer for the words
   pub answered : {A : Type 0} (f : Expr → A) (m : ℕ) (y : A) → Read ws m (Gives f y) → accepted y ≡ mapped f (parse ws)
-  answered f m y h = ap accepted (h .holds (whole .tree) (parse-front ws (whole .tree) (whole .is)) .is) ∙ sym (mapped-accepted (whole .is) f)
+  answered f m y h = ap accepted (h .holds (is-tree .tree) (parse-front ws (is-tree .tree) (is-tree .is)) .is) ∙ sym (mapped-accepted (is-tree .is) f)
 
 -- a refusal is handed on
 module _ {A : Type 0} (o : Outcome Expr) (x : Counted) (r : Refusal) (e : countedOutcome x ≡ mapped nodes o) (g : x ≡ counted.Refused r) where

@@ -3,13 +3,13 @@ use mathlib.Core.Path.{_≡_, refl, ap, _∙_, subst}
 use mathlib.Core.List.{List, [], _∷_}
 use Prim.Native.Nat.{ℕ, zero, suc, _≤_}
 use native.Mathlib.Omega.{arith}
-use lib.Dec.{T, eqb, eqb→eq}
+use lib.Dec.{T, eqb, eqb→eq, leb→le}
 use lib.ListN.{length}
 use borrow.Author.Tests.{le-ltb, ne-eqb}
 use Rattle.expr.specs.declared.refusal.Reason.{Reason}
 use Rattle.expr.specs.Refusals.{refusal}
 use Rattle.expr.specs.Outcome.{Outcome, refused, accepted, mapped}
-use Rattle.expr.specs.Expr.{Constant, Variable, Not, Neg, Shr, ZExt, SExt, Trunc, Add, Mul, And, Or, Xor, Concat, leafNumber, leafOperand, unaryNumber, unaryOperand, binaryNumber}
+use Rattle.expr.specs.Expr.{Constant, Variable, Unary, Not, Neg, Shr, ZExt, SExt, Trunc, Add, Mul, And, Or, Xor, Concat, leafNumber, leafOperand, unaryNumber, unaryOperand, binaryNumber}
 use Rattle.expr.specs.Parse.{Kind, none, one, two, arity, arityOf, kinds, kindAt, operandOk}
 
 -- the kind word and the operand word
@@ -67,6 +67,16 @@ number-arity (two And) = refl
 number-arity (two Or) = refl
 number-arity (two Xor) = refl
 number-arity (two Concat) = refl
+
+-- the operand of a node with one child has 32 bits
+pub unary-operand : (k : Unary) → T (operandOk (unaryNumber k) (unaryOperand k)) → unaryOperand k ≤ 4294967295
+unfolding operandOk
+unary-operand Not h = omega arith
+unary-operand Neg h = omega arith
+unary-operand (Shr n) h = leb→le n 4294967295 h
+unary-operand (ZExt n) h = leb→le n 4294967295 h
+unary-operand (SExt n) h = leb→le n 4294967295 h
+unary-operand (Trunc n) h = leb→le n 4294967295 h
 
 -- ---- from words to their kind
 

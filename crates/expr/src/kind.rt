@@ -17,6 +17,7 @@ pub const NEG: u64 = 8;
 
 pub const SHR: u64 = 9;
 
+// ZExt, SExt and Trunc, the casts, are 10 to 12, and no kind with one child is above them.
 pub const ZEXT: u64 = 10;
 
 pub const TRUNC: u64 = 12;

@@ -11,7 +11,7 @@ use mir.Syntax.{w32}
 use mir.Val.{Fits, boolByte}
 use Rattle.arith.specs.Choice.{if_then_else_}
 use Rattle.expr.specs.Expr.{Leaf, Constant, Variable, Unary, Binary, Add, Mul, And, Or, Xor, Concat, Expr, leaf, unary, binary, leafNumber, binaryNumber, encode, nodes, depth}
-use Rattle.expr.specs.ExprLaws.{length-encode}
+use Rattle.expr.specs.ExprLaws.{depth-nodes, length-encode}
 use Rattle.expr.specs.ExprUtils.{hasVarDep}
 use Rattle.expr.specs.Parse.{arityOf}
 use Rattle.expr.specs.declared.Arity.{Arity}
@@ -23,7 +23,7 @@ use Rattle.expr.specs.FrontLaws.{leaf-node, unary-node, binary-node, right-fron
 use Rattle.expr_cost.specs.declared.CostInfo.{CostInfo}
 use Rattle.expr_cost.specs.ExprCost.{isNonlinear, ownWeight, weightedSize, nonlinearMulCount, computeCost}
 use Rattle.expr_cost.specs.Contracts.{Small}
-use Rattle.expr_cost.specs.ExprCostLaws.{weight-most, products-most, depth-most}
+use Rattle.expr_cost.specs.ExprCostLaws.{weight-most, products-most}
 
 -- ---- a nonlinear product
 
@@ -128,7 +128,7 @@ small-cost ws n c p s h =
     (record {
       weight = omega (arith, weight-most (2 ^ 20) own-most t);
       products = omega (arith, products-most t);
-      levels = omega (arith, depth-most t);
+      levels = omega (arith, depth-nodes t);
     })
 
 module _ (ws : List ℕ) (a : Arity) (e : arityOutcome a ≡ arityOf (getD ws 0 0)) (t : Expr) (f : Front ws t) (c : CostInfo) where

@@ -5,6 +5,7 @@ use Rattle.expr_cost.specs.declared.CostInfo.{CostInfo}
 use Rattle.expr_cost.specs.declared.CostAnswer.{CostAnswer}
 use Rattle.expr_cost.specs.declared.CostAnswer.the-variants.{Cost, Refused}
 
+-- a cost
 abbrev pub costOutcome : CostAnswer → Outcome CostInfo
 costOutcome (Cost info) = accepted info
 costOutcome (Refused r) = refused (reasonOf r)

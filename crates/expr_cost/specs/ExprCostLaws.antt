@@ -8,7 +8,7 @@ use native.Mathlib.Nat.{mul-add, le-refl}
 use lib.Dec.{ltb, eqb}
 use borrow.Author.Tests.{ltb-true, eqb-true, lt-ltb, le-ltb, eq-eqb}
 use Rattle.arith.specs.Choice.{if_then_else_}
-use Rattle.expr.specs.Expr.{Expr, leaf, unary, binary, nodes, depth}
+use Rattle.expr.specs.Expr.{Expr, leaf, unary, binary, nodes}
 use Rattle.expr_cost.specs.declared.ExprCost.{ExprCost}
 use Rattle.expr_cost.specs.ExprCost.{isNonlinear, ownWeight, weightedSize, nonlinearMulCount, isBetter}
 
@@ -29,12 +29,6 @@ products-most (binary k l r) = omega (arith, one (isNonlinear k l r), products-m
     one : (b : Bool) → (if b then 1 else 0) ≤ 1
     one true = omega arith
     one false = omega arith
-
-pub depth-most : (t : Expr) → depth t ≤ nodes t
-unfolding depth nodes
-depth-most (leaf k) = omega arith
-depth-most (unary k t) = omega (arith, depth-most t)
-depth-most (binary k l r) = omega (arith, depth-most l, depth-most r)
 
 -- ---- better is an order
 

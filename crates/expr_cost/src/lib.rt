@@ -32,8 +32,8 @@ pub enum CostAnswer {
     Refused(Refusal),
 }
 
-// What `cost_at` has read: the words of the subtree, and its cost.
-struct Costed {
+// A subtree's cost, and how many words it takes.
+struct CostRead {
     words: usize,
     info: CostInfo,
 }
@@ -84,7 +84,7 @@ fn is_nonlinear(kind: u64, left: bool, right: bool) -> bool
     left && right
 }
 
-fn deeper(a: u32, b: u32) -> u32
+fn larger(a: u32, b: u32) -> u32
     ensures { λ r. ⌜ r ≡ max a b ⌝ }
 {
     if a < b { b } else { a }
@@ -100,7 +100,7 @@ fn binary_cost(kind: u64, lhs: CostInfo, rhs: CostInfo) -> CostInfo
         nonlinear_mul_count: lhs.cost.nonlinear_mul_count
             + rhs.cost.nonlinear_mul_count
             + nonlinear as u32,
-        max_depth: deeper(lhs.cost.max_depth, rhs.cost.max_depth) + 1,
+        max_depth: larger(lhs.cost.max_depth, rhs.cost.max_depth) + 1,
     };
     CostInfo {
         cost,
@@ -109,20 +109,20 @@ fn binary_cost(kind: u64, lhs: CostInfo, rhs: CostInfo) -> CostInfo
 }
 
 // The cost of the subtree at the front of the words.
-fn cost_at(ws: &[u64]) -> Costed
+fn cost_at(ws: &[u64]) -> CostRead
     requires { ⌜ Starts (now ws) × (length (now ws) ≤ 1024) ⌝ }
     ensures { λ r. ⌜ Read (now (ws .entry)) (r .words) (Gives computeCost (r .info)) ⌝ }
 {
     let kind = ws[0];
     let rest = &ws[2..];
     match expr::arity_of(kind) {
-        Arity::Zero => Costed {
+        Arity::Zero => CostRead {
             words: 2,
             info: leaf_cost(kind),
         },
         Arity::One => {
             let child = cost_at(rest);
-            Costed {
+            CostRead {
                 words: child.words + 2,
                 info: unary_cost(child.info),
             }
@@ -131,13 +131,13 @@ fn cost_at(ws: &[u64]) -> Costed
             let lhs = cost_at(rest);
             let right = lhs.words;
             let rhs = cost_at(&rest[right..]);
-            Costed {
+            CostRead {
                 words: right + rhs.words + 2,
                 info: binary_cost(kind, lhs.info, rhs.info),
             }
         }
         // no tree has such a kind
-        Arity::Refused(_) => Costed {
+        Arity::Refused(_) => CostRead {
             words: 2,
             info: leaf_cost(kind),
         },
@@ -151,8 +151,8 @@ pub fn compute_cost(words: &[u64]) -> CostAnswer
     match expr::check_tree(words) {
         Counted::Refused(r) => CostAnswer::Refused(r),
         Counted::Count(_) => {
-            let costed = cost_at(words);
-            let info = costed.info;
+            let read = cost_at(words);
+            let info = read.info;
             CostAnswer::Cost(info)
         }
     }

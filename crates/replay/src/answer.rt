@@ -60,7 +60,7 @@ fn of_widths(name: &[u8], width: u32, lists: &[u8]) -> Answer {
     let end = split.end;
     let next = split.next;
     let mut var_widths = [0u32; MOST_WORDS];
-    let listed = text::widths_in(&lists[0..end], &mut var_widths);
+    let listed = text::u32s_in(&lists[0..end], &mut var_widths);
     if !listed.good {
         return Answer::NoRequest;
     }
@@ -89,7 +89,7 @@ fn of_lists(name: &[u8], first: &[u8], lists: &[u8]) -> Answer {
         return costs::is_better(first, lists);
     }
     let mut width = [0u32; 1];
-    let listed = text::widths_in(first, &mut width);
+    let listed = text::u32s_in(first, &mut width);
     if !listed.good {
         return Answer::NoRequest;
     }

@@ -12,7 +12,7 @@ struct ReadCost {
 
 fn cost_in(list: &[u8]) -> ReadCost {
     let mut numbers = [0u32; 3];
-    let listed = text::widths_in(list, &mut numbers);
+    let listed = text::u32s_in(list, &mut numbers);
     let cost = ExprCost {
         weighted_size: numbers[0],
         nonlinear_mul_count: numbers[1],

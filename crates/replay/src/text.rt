@@ -117,7 +117,7 @@ fn narrowed(words: &[u64], widths: &mut [u32]) -> Listed
 }
 
 // As `words_in`, for numbers of 32 bits.
-pub(crate) fn widths_in(list: &[u8], widths: &mut [u32]) -> Listed
+pub(crate) fn u32s_in(list: &[u8], widths: &mut [u32]) -> Listed
     ensures { λ r. ⌜ r .count ≤ length (now (widths .entry)) ⌝ }
 {
     let mut words = [0u64; MOST_WORDS];

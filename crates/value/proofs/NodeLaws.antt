@@ -2,21 +2,21 @@
 use mathlib.Core.Path.{_≡_, refl, sym, ap, ap₂, _∙_, subst}
 use mathlib.Core.Bool.{Bool, true, false, _&&_}
 use mathlib.Core.List.{List}
-use Prim.Native.Nat.{ℕ, suc, _%_, _^_, _≤_, _<_, max}
+use Prim.Native.Nat.{ℕ, _%_, _^_, _≤_, _<_}
 use native.Mathlib.Nat.{mod-eq-of-lt}
 use native.Mathlib.Omega.{arith}
 use lib.Bits.{bitAnd, bitOr, bitXor}
-use lib.Dec.{leb, eqb}
+use lib.Dec.{eqb}
 use lib.ListN.{length, getD, List·getD-eq-default}
 use lib.Pow.{pow-pos}
-use borrow.Author.Tests.{ne-eqb, le-leb, lt-leb, leb-true, leb-false}
+use borrow.Author.Tests.{ne-eqb, lt-ltb, le-ltb}
 use Rattle.arith.specs.Choice.{if_then_else_}
 use Rattle.arith.specs.Arith.{modAdd, modMul, modNeg, modNot, modShr, lowBits}
 use Rattle.arith.specs.ArithLaws.{low-is, add-is, mul-is, not-is, neg-is, shr-is}
 use Rattle.arith.specs.Bv.{bvadd, bvmul, bvand, bvor, bvxor, bvnot, bvneg, bvlshr}
 use Rattle.expr.specs.Expr.{Leaf, Constant, Variable, Unary, Not, Neg, Shr, ZExt, SExt, Trunc, Binary, Add, Mul, And, Or, Xor, Concat, Expr, leaf, unary, binary, leafNumber, leafOperand, unaryNumber, unaryOperand, binaryNumber}
 use Rattle.value.specs.declared.Valued.{Valued}
-use Rattle.value.specs.Value.{unaryValue, binaryValue, value, conditions, isLent}
+use Rattle.value.specs.Value.{unaryValue, binaryValue, value, isLent}
 use Rattle.value.specs.ValueLaws.{value-lt}
 use Rattle.value.specs.Contracts.{valued}
 
@@ -28,21 +28,21 @@ members p q = (λ i. record { value = p i; lent = q i })
 
 module _ (w kind operand : ℕ) (σ : List ℕ) (l : w ≤ 64) where
   pub constant-valued : (k : Leaf) (v : ℕ) → (kind ≡ 1 → ⊥) → kind ≡ leafNumber k → operand ≡ leafOperand k → v ≡ lowBits operand w → record { value = v; lent = true } ≡ valued w σ (leaf k)
-  unfolding valued value isLent conditions
-  constant-valued (Constant c) v g e f h = members (h ∙ low-is w l operand ∙ ap (λ (n : ℕ). n % 2 ^ w) f) (sym (le-leb 0 (length σ) (omega arith)))
+  unfolding valued value isLent
+  constant-valued (Constant c) v g e f h = members (h ∙ low-is w l operand ∙ ap (λ (n : ℕ). n % 2 ^ w) f) refl
   constant-valued (Variable i) v g e f h = absurd (g e)
 
   pub lent-valued : (k : Leaf) (v : ℕ) → kind ≡ 1 → operand < length σ → kind ≡ leafNumber k → operand ≡ leafOperand k → v ≡ lowBits (getD σ operand 0) w → record { value = v; lent = true } ≡ valued w σ (leaf k)
-  unfolding valued value isLent conditions
+  unfolding valued value isLent
   lent-valued (Constant c) v g m e f h = absurd (omega arith)
   lent-valued (Variable i) v g m e f h =
-      members (h ∙ low-is w l (getD σ operand 0) ∙ ap (λ (n : ℕ). getD σ n 0 % 2 ^ w) f) (sym (le-leb (suc i) (length σ) (omega arith)))
+      members (h ∙ low-is w l (getD σ operand 0) ∙ ap (λ (n : ℕ). getD σ n 0 % 2 ^ w) f) (sym (lt-ltb i (length σ) (omega arith)))
 
   pub unlent-valued : (k : Leaf) → kind ≡ 1 → length σ ≤ operand → kind ≡ leafNumber k → operand ≡ leafOperand k → record { value = 0; lent = false } ≡ valued w σ (leaf k)
-  unfolding valued value isLent conditions
+  unfolding valued value isLent
   unlent-valued (Constant c) g m e f = absurd (omega arith)
   unlent-valued (Variable i) g m e f =
-      members (sym (mod-eq-of-lt (pow-pos w)) ∙ ap (λ (n : ℕ). n % 2 ^ w) (sym (List·getD-eq-default σ 0 (subst (λ (n : ℕ). length σ ≤ n) f m)))) (sym (lt-leb (suc i) (length σ) (omega arith)))
+      members (sym (mod-eq-of-lt (pow-pos w)) ∙ ap (λ (n : ℕ). n % 2 ^ w) (sym (List·getD-eq-default σ 0 (subst (λ (n : ℕ). length σ ≤ n) f m)))) (sym (le-ltb i (length σ) (omega arith)))
 
 -- ---- nodes with one child
 
@@ -86,7 +86,7 @@ cast-value w kind operand x k e f p q r =
 pub unary-valued : (w kind operand x : ℕ) (child : Valued) (σ : List ℕ) (k : Unary) (t : Expr) → kind ≡ unaryNumber k → operand ≡ unaryOperand k → child ≡ valued w σ t
     → ((j : Unary) → kind ≡ unaryNumber j → operand ≡ unaryOperand j → child .value < 2 ^ w → x ≡ unaryValue w j (child .value))
     → record { value = x; lent = child .lent } ≡ valued w σ (unary k t)
-unfolding valued value isLent conditions
+unfolding valued value isLent
 unary-valued w kind operand x child σ k t e f g h =
     let v : child .value ≡ value w σ t = ap (λ (c : Valued). c .value) g in
     members (h k e f (subst (λ (n : ℕ). n < 2 ^ w) (sym v) (value-lt w σ t)) ∙ ap (unaryValue w k) v) (ap (λ (c : Valued). c .lent) g)
@@ -140,19 +140,16 @@ module _ (w kind x y : ℕ) (k : Binary) (e : kind ≡ binaryNumber k) where
       (let v : 0 ≡ binaryBy w kind x y = rw (ne-eqb kind 2 p, ne-eqb kind 3 q, ne-eqb kind 4 r, ne-eqb kind 5 s, ne-eqb kind 6 u) in v)
       ∙ binary-here w kind x y 0 k e
 
--- a list is long enough for both exactly if it is for the larger
-both-lent : (a b n : ℕ) → (leb a n && leb b n) ≡ leb (max a b) n
-both-lent a b n = go (leb a n) (leb b n) refl refl
-  where
-    go : (x y : Bool) → leb a n ≡ x → leb b n ≡ y → (x && y) ≡ leb (max a b) n
-    go true true p q = let h = leb-true a n p in let i = leb-true b n q in sym (le-leb (max a b) n (omega arith))
-    go true false p q = let i = leb-false b n q in sym (lt-leb (max a b) n (omega arith))
-    go false y p q = let h = leb-false a n p in sym (lt-leb (max a b) n (omega arith))
+module _ (w kind x : ℕ) (left right : Valued) (σ : List ℕ) (k : Binary) (t u : Expr) (e : kind ≡ binaryNumber k) (f : left ≡ valued w σ t) (g : right ≡ valued w σ u)
+    (i : (j : Binary) → kind ≡ binaryNumber j → x ≡ binaryValue w j (left .value) (right .value)) where
+  binary-is : (b : Bool) → b ≡ (left .lent && right .lent) → record { value = x; lent = b } ≡ valued w σ (binary k t u)
+  unfolding valued value isLent
+  binary-is b h =
+      members (i k e ∙ ap₂ (binaryValue w k) (ap (λ (c : Valued). c .value) f) (ap (λ (c : Valued). c .value) g))
+      (h ∙ ap₂ _&&_ (ap (λ (c : Valued). c .lent) f) (ap (λ (c : Valued). c .lent) g))
 
-pub binary-valued : (w kind x : ℕ) (b : Bool) (left right : Valued) (σ : List ℕ) (k : Binary) (t u : Expr) → kind ≡ binaryNumber k → left ≡ valued w σ t → right ≡ valued w σ u
-    → b ≡ (left .lent && right .lent) → ((j : Binary) → kind ≡ binaryNumber j → x ≡ binaryValue w j (left .value) (right .value))
-    → record { value = x; lent = b } ≡ valued w σ (binary k t u)
-unfolding valued value isLent conditions
-binary-valued w kind x b left right σ k t u e f g h i =
-    members (i k e ∙ ap₂ (binaryValue w k) (ap (λ (c : Valued). c .value) f) (ap (λ (c : Valued). c .value) g))
-    (h ∙ ap₂ _&&_ (ap (λ (c : Valued). c .lent) f) (ap (λ (c : Valued). c .lent) g) ∙ both-lent (conditions t) (conditions u) (length σ))
+  pub left-lent : left .lent ≡ true → record { value = x; lent = right .lent } ≡ valued w σ (binary k t u)
+  left-lent h = binary-is (right .lent) (sym (ap (λ (b : Bool). b && right .lent) h))
+
+  pub left-not-lent : left .lent ≡ false → record { value = x; lent = left .lent } ≡ valued w σ (binary k t u)
+  left-not-lent h = binary-is (left .lent) (h ∙ sym (ap (λ (b : Bool). b && right .lent) h))

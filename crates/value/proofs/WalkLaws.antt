@@ -66,13 +66,13 @@ module _ (ws : List ℕ) (w : ℕ) (widths : List ℕ) where
   narrow-refused h = refused-1 (sym (too-narrow w h))
 
   module _ (p : 1 ≤ w) where
-    pub wide-refused : 64 < w → refused (refusal 1) ≡ mapped nodes (oneWidth ws w widths)
-    wide-refused h = refused-1 (sym (too-wide w p (omega arith)))
+    pub wide-refused : 65 ≤ w → refused (refusal 1) ≡ mapped nodes (oneWidth ws w widths)
+    wide-refused h = refused-1 (sym (too-wide w p h))
 
-    module _ (q : w ≤ 64) (y : Verdict) (e : verdictOutcome y ≡ mapped (isUniformWidth widths w) (parse ws)) where
+    module _ (q : w < 65) (y : Verdict) (e : verdictOutcome y ≡ mapped (isUniformWidth widths w) (parse ws)) where
       asked : mapped nodes (parse ws andThen uniform widths w) ≡ mapped nodes (oneWidth ws w widths)
       unfolding oneWidth
-      asked = rw (sym (in-range w p (omega arith)))
+      asked = rw (sym (in-range w p q))
 
       pub words-refused : (r : Refusal) → y ≡ verdict.Refused r → refused (reasonOf r) ≡ mapped nodes (oneWidth ws w widths)
       words-refused r g = ap (mapped nodes) (refused-then (isUniformWidth widths w) (uniform widths w) (parse ws) (ap verdictOutcome (sym g) ∙ e)) ∙ asked

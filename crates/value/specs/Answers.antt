@@ -5,6 +5,7 @@ use Rattle.expr.specs.Outcome.{Outcome, refused, accepted}
 use Rattle.value.specs.declared.ValueAnswer.{ValueAnswer}
 use Rattle.value.specs.declared.ValueAnswer.the-variants.{Value, Refused}
 
+-- a value
 abbrev pub valueOutcome : ValueAnswer → Outcome ℕ
 valueOutcome (Value v) = accepted v
 valueOutcome (Refused r) = refused (reasonOf r)

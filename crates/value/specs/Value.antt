@@ -1,8 +1,8 @@
 -- The value of a tree, which document 01 adds to the Rust: SMT-LIB's bit vectors decide it. Definitions only.
-use mathlib.Core.Bool.{Bool}
+use mathlib.Core.Bool.{Bool, true, _&&_}
 use mathlib.Core.List.{List}
-use Prim.Native.Nat.{ℕ, suc, _%_, _^_, max}
-use lib.Dec.{leb}
+use Prim.Native.Nat.{ℕ, _%_, _^_}
+use lib.Dec.{ltb}
 use lib.ListN.{length, getD}
 use Rattle.arith.specs.Choice.{if_then_else_}
 use Rattle.arith.specs.Bv.{bvadd, bvmul, bvand, bvor, bvxor, bvnot, bvneg, bvlshr}
@@ -31,23 +31,20 @@ binaryValue w Or x y = bvor x y
 binaryValue w Xor x y = bvxor x y
 binaryValue w Concat x y = 0
 
--- the value of a tree at width w and a setting σ; of a Constant's operand and of a Variable's lent word the low w bits count
+-- the value of a tree at width w and a setting σ: a leaf's word is taken modulo 2 ^ w, and a variable without a word counts as 0 until
+-- `valueAt` refuses the tree
 unfoldable pub value : ℕ → List ℕ → Expr → ℕ
 value w σ (leaf (Constant c)) = c % 2 ^ w
 value w σ (leaf (Variable i)) = getD σ i 0 % 2 ^ w
 value w σ (unary k t) = unaryValue w k (value w σ t)
 value w σ (binary k l r) = binaryValue w k (value w σ l) (value w σ r)
 
--- document 01's conditions: the highest variable number plus one, 0 without a variable; a setting needs so many words
-unfoldable pub conditions : Expr → ℕ
-conditions (leaf (Constant c)) = 0
-conditions (leaf (Variable i)) = suc i
-conditions (unary k t) = conditions t
-conditions (binary k l r) = max (conditions l) (conditions r)
-
 -- the setting has a word for each variable of the tree
 unfoldable pub isLent : List ℕ → Expr → Bool
-isLent σ t = leb (conditions t) (length σ)
+isLent σ (leaf (Constant c)) = true
+isLent σ (leaf (Variable i)) = ltb i (length σ)
+isLent σ (unary k t) = isLent σ t
+isLent σ (binary k l r) = isLent σ l && isLent σ r
 
 -- 8 where `is_uniform_width` says no
 abbrev pub uniform : List ℕ → ℕ → Expr → Outcome Expr

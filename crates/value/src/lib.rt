@@ -1,7 +1,6 @@
-// The value of a tree of one width at a setting, both in document 01's sense: a call that gives the refusals 1 to 8 turns every other
-// tree down, at its width and its list of the variables' widths; and a setting lends each variable a word, by the variable's number.
+// The value of a tree of one width at a setting. In document 01's terms a tree is of one width if a call with that width and that list of
+// the variables' widths gives it none of the refusals 1 to 8; a setting is a list that has a word for each variable, by its number.
 ghost use mathlib.Core.Path.{_≡_};
-ghost use mathlib.Core.Bool.{_&&_};
 ghost use mathlib.Core.List.{List};
 ghost use Prim.Native.Nat.{ℕ, _≤_, _<_, _^_};
 ghost use Rattle.expr.specs.Expr.{Leaf, Unary, Binary, Expr, leaf, unary, binary, nodes, leafNumber, leafOperand, unaryNumber, unaryOperand, binaryNumber};
@@ -66,6 +65,7 @@ fn unary_value(kind: u64, operand: u64, x: u64, width: u32) -> u64
         kind::NOT => arith::mod_not(x, width),
         kind::NEG => arith::mod_neg(x, width),
         kind::SHR => arith::mod_shr(x, operand, width),
+        // a cast, which no tree of one width has
         _ => 0,
     }
 }
@@ -80,6 +80,7 @@ fn binary_value(kind: u64, x: u64, y: u64, width: u32) -> u64
         kind::AND => x & y,
         kind::OR => x | y,
         kind::XOR => x ^ y,
+        // a Concat, which no tree of one width has
         _ => 0,
     }
 }
@@ -94,20 +95,13 @@ fn unary_valued(kind: u64, operand: u64, child: Valued, width: u32) -> Valued
     }
 }
 
-// A function of its own, so that the proof of its caller has one answer and not an arm for each operand.
-fn both(a: bool, b: bool) -> bool
-    ensures { λ r. ⌜ r ≡ (a && b) ⌝ }
-{
-    if a { b } else { false }
-}
-
 fn binary_valued(kind: u64, left: Valued, right: Valued, width: u32) -> Valued
     requires { ⌜ width ≤ 64 ⌝ }
     ensures { λ r. ⌜ ((σ : List ℕ) (k : Binary) (t u : Expr) → kind ≡ binaryNumber k → left ≡ valued width σ t → right ≡ valued width σ u → r ≡ valued width σ (binary k t u)) ⌝ }
 {
     Valued {
         value: binary_value(kind, left.value, right.value, width),
-        lent: both(left.lent, right.lent),
+        lent: left.lent && right.lent,
     }
 }
 
@@ -151,11 +145,9 @@ fn value_at(ws: &[u64], width: u32, setting: &[u64]) -> ValueRead
 pub fn check_one_width(words: &[u64], width: u32, var_widths: &[u32]) -> Counted
     ensures { λ r. ⌜ countedOutcome r ≡ mapped nodes (oneWidth (now (words .entry)) width (now («var_widths» .entry))) ⌝ }
 {
-    if width < 1 {
-        return Counted::Refused(Refusal::WidthOutOfRange);
-    }
-    if 64 < width {
-        return Counted::Refused(Refusal::WidthOutOfRange);
+    match width {
+        1..=64 => {}
+        _ => return Counted::Refused(Refusal::WidthOutOfRange),
     }
     match width::is_uniform_width(words, var_widths, width) {
         Verdict::Refused(r) => Counted::Refused(r),

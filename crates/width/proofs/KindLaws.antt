@@ -11,45 +11,41 @@ use mir.Val.{Fits}
 use borrow.Author.Tests.{not-true, not-false, eq-eqb, ne-eqb, lt-ltb, le-ltb}
 use Rattle.arith.specs.Choice.{if_then_else_}
 use Rattle.expr.specs.declared.refusal.Refusal.the-variants.{UnsupportedWidth}
+use Rattle.expr.specs.Refusals.{carrying}
 use Rattle.expr.specs.Outcome.{Outcome, refused, accepted, _andThen_}
 use Rattle.expr.specs.OutcomeLaws.{then-accepted, then-refused}
 use Rattle.expr.specs.Expr.{Leaf, Constant, Variable, Unary, Not, Neg, Shr, ZExt, SExt, Trunc, Binary, Add, Mul, And, Or, Xor, Concat, leaf, leafNumber, leafOperand, unaryNumber, unaryOperand, binaryNumber}
-use Rattle.width.specs.declared.Validity.{Validity}
-use Rattle.width.specs.declared.Validity.the-variants.{Refused}
-use Rattle.width.specs.Contracts.{Over}
-use Rattle.width.specs.WidthLaws.{supported-is}
-use Rattle.width.specs.Width.{carrying, supported, ranged, valid, unaryWidth, binaryWidth, checkedWidthOf, unaryRule, binaryRule}
+use Rattle.width.specs.declared.Validity.the-variants.{Valid, Refused}
+use Rattle.width.specs.Contracts.{OwnWidthFirst}
+use Rattle.width.specs.WidthLaws.{supported-is, ranged-yes, ranged-no}
+use Rattle.width.specs.Width.{supported, ranged, valid, unaryWidth, binaryWidth, checkedWidthOf, unaryRule, binaryRule}
 
 -- ---- a width is in range, or refused
 
 module _ (w : ℕ) where
-  module _ (b : Bool) (e : b ≡ supported w) where
-    pub ranged-yes : not b ≡ false → ranged w ≡ accepted w
-    unfolding ranged
-    ranged-yes f = rw (sym e ∙ not-false b f)
+  -- a width that was looked at once is not refused the second time
+  ranged-twice : (ranged w andThen ranged) ≡ ranged w
+  ranged-twice = go (supported w) refl
+    where
+      go : (b : Bool) → supported w ≡ b → (ranged w andThen ranged) ≡ ranged w
+      go true e = then-accepted (ranged-yes w e) ranged
+      go false e = then-refused (ranged-no w e) ranged ∙ sym (ranged-no w e)
 
-    pub ranged-no : not b ≡ true → ranged w ≡ refused (carrying 10 w 0)
-    unfolding ranged
-    ranged-no f = rw (sym e ∙ not-true b f)
+  module _ (b : Bool) (e : b ≡ supported w) where
+    pub accepted-here : not b ≡ false → ranged w ≡ accepted w
+    accepted-here f = ranged-yes w (sym e ∙ not-false b f)
+
+    pub refused-here : not b ≡ true → ranged w ≡ refused (carrying 10 w 0)
+    refused-here f = ranged-no w (sym e ∙ not-true b f)
 
     at-most : not b ≡ false → w ≤ 64
     at-most f = supported-is w (sym e ∙ not-false b f) .1
 
-  -- a width that was looked at once is not refused the second time
-  pub ranged-twice : (ranged w andThen ranged) ≡ ranged w
-  unfolding ranged
-  ranged-twice = go (supported w) refl
-    where
-      go : (b : Bool) → supported w ≡ b → (ranged w andThen ranged) ≡ ranged w
-      go true e = let r : ranged w ≡ accepted w = rw e in then-accepted r ranged
-      go false e = let r : ranged w ≡ refused (carrying 10 w 0) = rw e in then-refused r ranged ∙ sym r
+    pub own-refused : not b ≡ true → OwnWidthFirst w Valid (Refused (UnsupportedWidth w))
+    own-refused f = record { is = sym (then-refused (refused-here f) _) }
 
-  module _ (b : Bool) (e : b ≡ supported w) where
-    pub own-refused : (below : Validity) → not b ≡ true → Over w below (Refused (UnsupportedWidth w))
-    own-refused below f = record { is = sym (then-refused (ranged-no b e f) _) }
-
-    pub own-accepted : (below : Validity) → not b ≡ false → Over w below below
-    own-accepted below f = record { is = sym (then-accepted (ranged-yes b e f) _) }
+    pub own-accepted : not b ≡ false → OwnWidthFirst w Valid Valid
+    own-accepted f = record { is = sym (then-accepted (accepted-here f) _) }
 
 -- ---- leaves
 
@@ -139,21 +135,21 @@ module _ (kind target child : ℕ) (k : Unary) (e : kind ≡ unaryNumber k) wher
 -- a Concat
 module _ (left right : ℕ) (b : Bool) (h : b ≡ supported left) where
   pub concat-left : not b ≡ true → ranged left ≡ (binaryWidth Concat (ranged left) (ranged right) andThen ranged)
-  concat-left f = let r = ranged-no left b h f in r ∙ sym (ap (λ (o : Outcome ℕ). binaryWidth Concat o (ranged right) andThen ranged) r)
+  concat-left f = let r = refused-here left b h f in r ∙ sym (ap (λ (o : Outcome ℕ). binaryWidth Concat o (ranged right) andThen ranged) r)
 
   module _ (f : not b ≡ false) (c : Bool) (i : c ≡ supported right) where
     of-right : (o : Outcome ℕ) → ranged right ≡ o → (o andThen (λ y. ranged (left + y))) ≡ (binaryWidth Concat (ranged left) (ranged right) andThen ranged)
-    of-right o e = go o ∙ sym (ap₂ (λ (p q : Outcome ℕ). binaryWidth Concat p q andThen ranged) (ranged-yes left b h f) e)
+    of-right o e = go o ∙ sym (ap₂ (λ (p q : Outcome ℕ). binaryWidth Concat p q andThen ranged) (accepted-here left b h f) e)
       where
         go : (o : Outcome ℕ) → (o andThen (λ y. ranged (left + y))) ≡ (binaryWidth Concat (accepted left) o andThen ranged)
         go (refused r) = refl
         go (accepted y) = refl
 
     pub concat-right : not c ≡ true → ranged right ≡ (binaryWidth Concat (ranged left) (ranged right) andThen ranged)
-    concat-right j = let r = ranged-no right c i j in r ∙ of-right (refused (carrying 10 right 0)) r
+    concat-right j = let r = refused-here right c i j in r ∙ of-right (refused (carrying 10 right 0)) r
 
     pub concat-sum : not c ≡ false → ranged (left + right) ≡ (binaryWidth Concat (ranged left) (ranged right) andThen ranged)
-    concat-sum j = of-right (accepted right) (ranged-yes right c i j)
+    concat-sum j = of-right (accepted right) (accepted-here right c i j)
 
     pub sum-fits : not c ≡ false → Fits w32 (left + right)
     sum-fits j = omega (arith, at-most left b h f, at-most right c i j)

@@ -12,9 +12,10 @@ use Rattle.expr.specs.Expr.{Leaf, Unary, Binary, Expr, leaf, unary, binary, lea
 use Rattle.width.specs.declared.Widths.{Widths}
 use Rattle.width.specs.declared.Validity.{Validity}
 use Rattle.width.specs.declared.Validity.the-variants.{Valid, Refused}
-use Rattle.width.specs.Width.{carrying, supported, ranged, valid, unaryWidth, binaryWidth, checkedWidthOf, unaryRule, binaryRule, validateWidths}
+use Rattle.width.specs.WidthLaws.{ranged-yes, ranged-no}
+use Rattle.width.specs.Width.{supported, ranged, valid, unaryWidth, binaryWidth, checkedWidthOf, unaryRule, binaryRule, validateWidths}
 use Rattle.width.specs.Answers.{validityOutcome}
-use Rattle.width.specs.Contracts.{First, FirstOfThree, Over, WidthsOf}
+use Rattle.width.specs.Contracts.{First, FirstOfThree, OwnWidthFirst, WidthsOf}
 
 -- the first of two refusals
 module _ (a b : Validity) where
@@ -27,9 +28,17 @@ module _ (a b : Validity) where
 pub three-first : (a b c after r : Validity) → First a after r → First b c after → FirstOfThree a b c r
 three-first a b c after r p q = record { is = p .is ∙ ap (λ (o : Outcome Unit). validityOutcome a andThen (λ v. o)) (q .is) }
 
+pub own-first-of : (w : ℕ) (own below r : Validity) → OwnWidthFirst w Valid own → First own below r → OwnWidthFirst w below r
+own-first-of w own below r p q =
+    record { is = q .is ∙ ap (λ (o : Outcome Unit). o andThen (λ v. validityOutcome below)) (p .is) ∙ go (ranged w) (validityOutcome below) }
+  where
+    go : (o : Outcome ℕ) (b : Outcome Unit) → ((o andThen (λ v. valid)) andThen (λ v. b)) ≡ (o andThen (λ v. b))
+    go (refused s) b = refl
+    go (accepted v) b = refl
+
 pub leaf-widths : (widths : List ℕ) (d kind operand : ℕ) (k : Leaf) (w : ℕ) (v : Validity) → kind ≡ leafNumber k → operand ≡ leafOperand k
     → ((j : Leaf) → kind ≡ leafNumber j → operand ≡ leafOperand j → ranged w ≡ checkedWidthOf widths d (leaf j))
-    → Over w Valid v → WidthsOf widths d (record { width = w; validity = v }) (leaf k)
+    → OwnWidthFirst w Valid v → WidthsOf widths d (record { width = w; validity = v }) (leaf k)
 unfolding validateWidths
 leaf-widths widths d kind operand k w v e f g h = record { width-is = g k e f; validity-is = h .is ∙ ap (λ (o : Outcome ℕ). o andThen (λ x. valid)) (g k e f) }
 
@@ -42,12 +51,11 @@ module _ (widths : List ℕ) (d : ℕ) where
   own-first (binary k l r) e = then-refused e _
 
   valid-width : (t : Expr) (w : ℕ) {u : Unit} → validateWidths widths d t ≡ accepted u → ranged w ≡ checkedWidthOf widths d t → accepted w ≡ checkedWidthOf widths d t
-  unfolding ranged
   valid-width t w e f = go (supported w) refl
     where
       go : (b : Bool) → supported w ≡ b → accepted w ≡ checkedWidthOf widths d t
-      go true g = (let s : accepted w ≡ ranged w = rw g in s) ∙ f
-      go false g = absurd (let s : refused (carrying 10 w 0) ≡ ranged w = rw g in let h = own-first t (sym (s ∙ f)) in let z : _≡_ {A = ℕ} 0 1 = cc in omega arith)
+      go true g = sym (ranged-yes w g) ∙ f
+      go false g = absurd (let h = own-first t (sym f ∙ ranged-no w g) in let z : _≡_ {A = ℕ} 0 1 = cc in omega arith)
 
   -- what is asked of a tree's width, once its widths are consistent
   asked : (t : Expr) (w : ℕ) (f : Outcome ℕ → Outcome Unit) → ranged w ≡ checkedWidthOf widths d t
@@ -58,7 +66,7 @@ module _ (widths : List ℕ) (d : ℕ) where
       go (refused r) g = refl
       go (accepted u) g = ap f (valid-width t w g e)
 
-module _ (widths : List ℕ) (d kind w : ℕ) (below rule v : Validity) (q : Over w below v) where
+module _ (widths : List ℕ) (d kind w : ℕ) (below rule v : Validity) (q : OwnWidthFirst w below v) where
   node-valid : (t : Expr) (o : Outcome Unit) → ranged w ≡ checkedWidthOf widths d t → validityOutcome below ≡ o → validityOutcome v ≡ (checkedWidthOf widths d t andThen (λ x. o))
   node-valid t o e f = q .is ∙ ap₂ (λ (y : Outcome ℕ) (z : Outcome Unit). y andThen (λ x. z)) e f
 

@@ -4,9 +4,9 @@ use mathlib.Core.Bool.{Bool, true, false, not, _&&_}
 use mathlib.Core.List.{List}
 use Prim.Native.Nat.{ℕ, _≤_, _<_}
 use native.Mathlib.Omega.{arith}
-use lib.Dec.{eqb}
+use lib.Dec.{ltb, eqb}
 use lib.ListN.{getD}
-use borrow.Author.Tests.{not-true, not-false}
+use borrow.Author.Tests.{not-true, not-false, eq-eqb, ne-eqb, lt-ltb, le-ltb}
 use Rattle.expr.specs.declared.Arity.{Arity}
 use Rattle.expr.specs.declared.Arity.the-variants.{Zero, One, Two}
 use Rattle.expr.specs.Expr.{Leaf, Constant, Variable, Unary, Not, Neg, Shr, ZExt, SExt, Trunc, Binary, Add, Mul, And, Or, Xor, Concat, Expr, leaf, leafNumber, leafOperand, unaryNumber, binaryNumber}
@@ -30,50 +30,46 @@ module _ (widths : List ℕ) (w kind operand : ℕ) where
   variable-uniform (Constant c) v g e f h = absurd (omega arith)
   variable-uniform (Variable i) v g e f h = ap (λ (n : ℕ). eqb n w) (h ∙ ap (λ (j : ℕ). getD widths j w) f)
 
-module _ (kind : ℕ) where
-  pub unary-keeps : (k : Unary) (b : Bool) → kind < 10 → kind ≡ unaryNumber k → b ≡ (unaryKeeps k && b)
-  unary-keeps Not b h e = refl
-  unary-keeps Neg b h e = refl
-  unary-keeps (Shr n) b h e = refl
-  unary-keeps (ZExt n) b h e = absurd (omega arith)
-  unary-keeps (SExt n) b h e = absurd (omega arith)
-  unary-keeps (Trunc n) b h e = absurd (omega arith)
+-- the kinds that keep the width, by number
+unary-by-number : (k : Unary) → ltb (unaryNumber k) 10 ≡ unaryKeeps k
+unary-by-number Not = refl
+unary-by-number Neg = refl
+unary-by-number (Shr n) = refl
+unary-by-number (ZExt n) = refl
+unary-by-number (SExt n) = refl
+unary-by-number (Trunc n) = refl
 
-  pub cast-keeps-not : (k : Unary) (b : Bool) → 10 ≤ kind → kind ≡ unaryNumber k → false ≡ (unaryKeeps k && b)
-  cast-keeps-not Not b h e = absurd (omega arith)
-  cast-keeps-not Neg b h e = absurd (omega arith)
-  cast-keeps-not (Shr n) b h e = absurd (omega arith)
-  cast-keeps-not (ZExt n) b h e = refl
-  cast-keeps-not (SExt n) b h e = refl
-  cast-keeps-not (Trunc n) b h e = refl
+binary-by-number : (k : Binary) → not (eqb (binaryNumber k) 13) ≡ binaryKeeps k
+binary-by-number Add = refl
+binary-by-number Mul = refl
+binary-by-number And = refl
+binary-by-number Or = refl
+binary-by-number Xor = refl
+binary-by-number Concat = refl
 
-  -- a node with two children keeps the width exactly if it is no Concat
-  keeps : (k : Binary) → kind ≡ binaryNumber k → (kind ≡ 13 → ⊥) → binaryKeeps k ≡ true
-  keeps Add e g = refl
-  keeps Mul e g = refl
-  keeps And e g = refl
-  keeps Or e g = refl
-  keeps Xor e g = refl
-  keeps Concat e g = absurd (g e)
+module _ (kind : ℕ) (k : Unary) (e : kind ≡ unaryNumber k) (b : Bool) where
+  keeps : {c : Bool} → ltb kind 10 ≡ c → unaryKeeps k ≡ c
+  keeps t = sym (unary-by-number k) ∙ ap (λ (n : ℕ). ltb n 10) (sym e) ∙ t
 
-  keeps-not : (k : Binary) → kind ≡ binaryNumber k → kind ≡ 13 → binaryKeeps k ≡ false
-  keeps-not Add e g = absurd (omega arith)
-  keeps-not Mul e g = absurd (omega arith)
-  keeps-not And e g = absurd (omega arith)
-  keeps-not Or e g = absurd (omega arith)
-  keeps-not Xor e g = absurd (omega arith)
-  keeps-not Concat e g = refl
+  pub unary-keeps : kind < 10 → b ≡ (unaryKeeps k && b)
+  unary-keeps h = sym (ap (λ (c : Bool). c && b) (keeps (lt-ltb kind 10 h)))
 
-  module _ (k : Binary) (e : kind ≡ binaryNumber k) (l r : Bool) where
-    pub concat-uniform : kind ≡ 13 → false ≡ (binaryKeeps k && (l && r))
-    concat-uniform g = sym (ap (λ (b : Bool). b && (l && r)) (keeps-not k e g))
+  pub cast-keeps-not : 10 ≤ kind → false ≡ (unaryKeeps k && b)
+  cast-keeps-not h = sym (ap (λ (c : Bool). c && b) (keeps (le-ltb kind 10 h)))
 
-    module _ (g : kind ≡ 13 → ⊥) where
-      pub left-not : not l ≡ true → false ≡ (binaryKeeps k && (l && r))
-      left-not h = sym (ap₂ (λ (a b : Bool). a && (b && r)) (keeps k e g) (not-true l h))
+module _ (kind : ℕ) (k : Binary) (e : kind ≡ binaryNumber k) (l r : Bool) where
+  binary-keeps : {c : Bool} → eqb kind 13 ≡ c → binaryKeeps k ≡ not c
+  binary-keeps t = sym (binary-by-number k) ∙ ap not (ap (λ (n : ℕ). eqb n 13) (sym e) ∙ t)
 
-      pub right-decides : not l ≡ false → r ≡ (binaryKeeps k && (l && r))
-      right-decides h = sym (ap₂ (λ (a b : Bool). a && (b && r)) (keeps k e g) (not-false l h))
+  pub concat-uniform : kind ≡ 13 → false ≡ (binaryKeeps k && (l && r))
+  concat-uniform g = sym (ap (λ (b : Bool). b && (l && r)) (binary-keeps (eq-eqb kind 13 g)))
+
+  module _ (g : kind ≡ 13 → ⊥) where
+    pub left-not : not l ≡ true → false ≡ (binaryKeeps k && (l && r))
+    left-not h = sym (ap₂ (λ (a b : Bool). a && (b && r)) (binary-keeps (ne-eqb kind 13 g)) (not-true l h))
+
+    pub right-decides : not l ≡ false → r ≡ (binaryKeeps k && (l && r))
+    right-decides h = sym (ap₂ (λ (a b : Bool). a && (b && r)) (binary-keeps (ne-eqb kind 13 g)) (not-false l h))
 
 -- ---- the walk
 

@@ -2,9 +2,8 @@
 use mathlib.Core.Path.{_≡_, sym, ap, subst, _∙_}
 use mathlib.Core.Bool.{Bool, true, false, not}
 use mathlib.Core.List.{List}
-use Prim.Native.Nat.{ℕ, _≤_}
+use Prim.Native.Nat.{ℕ}
 use native.Mathlib.Omega.{arith}
-use lib.Dec.{T, leb→le}
 use lib.ListN.{getD}
 use mir.Syntax.{w32}
 use mir.Val.{Fits}
@@ -12,29 +11,21 @@ use Rattle.expr.specs.declared.Arity.{Arity}
 use Rattle.expr.specs.declared.Arity.the-variants.{Zero, One, Two}
 use Rattle.expr.specs.declared.Counted.{Counted}
 use Rattle.expr.specs.declared.Counted.the-variants.{Count}
+use Rattle.expr.specs.Refusals.{carrying}
 use Rattle.expr.specs.Outcome.{Outcome, refused, accepted, mapped, _andThen_}
 use Rattle.expr.specs.OutcomeLaws.{then-accepted, mapped-accepted}
-use Rattle.expr.specs.Expr.{Leaf, Unary, Not, Neg, Shr, ZExt, SExt, Trunc, Binary, Expr, leaf, unary, binary, nodes, leafNumber, leafOperand, unaryNumber, unaryOperand, binaryNumber}
-use Rattle.expr.specs.Parse.{arityOf, operandOk, parse}
+use Rattle.expr.specs.Expr.{Leaf, Unary, Binary, Expr, leaf, unary, binary, nodes, leafNumber, leafOperand, unaryNumber, unaryOperand, binaryNumber}
+use Rattle.expr.specs.KindLaws.{unary-operand}
+use Rattle.expr.specs.Parse.{arityOf, parse}
 use Rattle.expr.specs.Answers.{arityOutcome, countedOutcome}
 use Rattle.expr.specs.Front.{Front, Starts, Read}
 use Rattle.expr.specs.TailLaws.{tail}
-use Rattle.expr.specs.FrontLaws.{leaf-node, unary-node, binary-node, right-front, parse-front, Whole, whole}
+use Rattle.expr.specs.FrontLaws.{leaf-node, unary-node, binary-node, right-front, parse-front, IsTree, is-tree}
 use Rattle.width.specs.declared.Widths.{Widths}
-use Rattle.width.specs.Width.{carrying, supported, ranged, checkedWidthOf, orZero, widthOf, validateWidths}
+use Rattle.width.specs.Width.{supported, ranged, checkedWidthOf, orZero, widthOf, validateWidths}
 use Rattle.width.specs.Answers.{validityOutcome}
 use Rattle.width.specs.Contracts.{WidthsOf}
-use Rattle.width.proofs.KindLaws.{ranged-yes, ranged-no}
-
--- the operand of a node with one child has 32 bits
-unary-operand : (k : Unary) → T (operandOk (unaryNumber k) (unaryOperand k)) → unaryOperand k ≤ 4294967295
-unfolding operandOk
-unary-operand Not h = omega arith
-unary-operand Neg h = omega arith
-unary-operand (Shr n) h = leb→le n 4294967295 h
-unary-operand (ZExt n) h = leb→le n 4294967295 h
-unary-operand (SExt n) h = leb→le n 4294967295 h
-unary-operand (Trunc n) h = leb→le n 4294967295 h
+use Rattle.width.proofs.KindLaws.{accepted-here, refused-here}
 
 module _ (ws : List ℕ) (a : Arity) (e : arityOutcome a ≡ arityOf (getD ws 0 0)) where
   pub operand-fits : Starts ws → a ≡ One → Fits w32 (getD ws 1 0)
@@ -62,8 +53,8 @@ module _ (ws : List ℕ) (a : Arity) (e : arityOutcome a ≡ arityOf (getD ws 0 
 -- ---- what the calls answer
 
 module _ (ws widths : List ℕ) (d n m : ℕ) (x : Counted) (found : Widths) (e : countedOutcome x ≡ mapped nodes (parse ws)) (g : x ≡ Count n) (h : Read ws m (WidthsOf widths d found)) where
-  here : Whole ws
-  here = whole ws x n e g
+  here : IsTree ws
+  here = is-tree ws x n e g
 
   of-tree : WidthsOf widths d found (here .tree)
   of-tree = h .holds (here .tree) (parse-front ws (here .tree) (here .is))
@@ -76,17 +67,17 @@ module _ (ws widths : List ℕ) (d n m : ℕ) (x : Counted) (found : Widths) (e 
 
   module _ (b : Bool) (i : b ≡ supported (found .width)) where
     pub width-refused : not b ≡ true → refused (carrying 10 (found .width) 0) ≡ (parse ws andThen checkedWidthOf widths d)
-    width-refused j = sym (ranged-no (found .width) b i j) ∙ checked-is
+    width-refused j = sym (refused-here (found .width) b i j) ∙ checked-is
 
     pub width-answered : not b ≡ false → accepted (found .width) ≡ (parse ws andThen checkedWidthOf widths d)
-    width-answered j = sym (ranged-yes (found .width) b i j) ∙ checked-is
+    width-answered j = sym (accepted-here (found .width) b i j) ∙ checked-is
 
     width-is : (o : Outcome ℕ) → ranged (found .width) ≡ o → accepted (orZero o) ≡ mapped (widthOf widths d) (parse ws)
     unfolding widthOf
     width-is o j = ap (λ (p : Outcome ℕ). accepted (orZero p)) (sym j ∙ of-tree .width-is) ∙ sym (mapped-accepted (here .is) (widthOf widths d))
 
     pub width-none : not b ≡ true → accepted 0 ≡ mapped (widthOf widths d) (parse ws)
-    width-none j = width-is (refused (carrying 10 (found .width) 0)) (ranged-no (found .width) b i j)
+    width-none j = width-is (refused (carrying 10 (found .width) 0)) (refused-here (found .width) b i j)
 
     pub width-some : not b ≡ false → accepted (found .width) ≡ mapped (widthOf widths d) (parse ws)
-    width-some j = width-is (accepted (found .width)) (ranged-yes (found .width) b i j)
+    width-some j = width-is (accepted (found .width)) (accepted-here (found .width) b i j)

@@ -9,16 +9,16 @@ use Rattle.width.specs.Answers.{validityOutcome}
 use Rattle.width.specs.declared.Widths.{Widths}
 use Rattle.width.specs.declared.Validity.{Validity}
 
--- r is the first refusal of a and b
+-- r is the first refusal of a and b, or Valid
 pub record First (a b r : Validity) : Type 0 where
   pub is : validityOutcome r ≡ (validityOutcome a andThen (λ v. validityOutcome b))
 
--- r is the first refusal of a, b and c
+-- r is the first refusal of a, b and c, or Valid
 pub record FirstOfThree (a b c r : Validity) : Type 0 where
   pub is : validityOutcome r ≡ (validityOutcome a andThen (λ v. validityOutcome b andThen (λ v′. validityOutcome c)))
 
--- r is the refusal of a node of width w with this below it: its own width goes first
-pub record Over (w : ℕ) (below r : Validity) : Type 0 where
+-- r is the refusal of the width w, or else that of what is below the node, or Valid
+pub record OwnWidthFirst (w : ℕ) (below r : Validity) : Type 0 where
   pub is : validityOutcome r ≡ (ranged w andThen (λ v. validityOutcome below))
 
 -- what the walk finds of a tree is its width and whether its widths are consistent

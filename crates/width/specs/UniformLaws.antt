@@ -9,6 +9,7 @@ use borrow.Author.Tests.{eqb-true, eq-eqb}
 use Rattle.expr.specs.Outcome.{Outcome, accepted, _andThen_}
 use Rattle.expr.specs.OutcomeLaws.{then-accepted}
 use Rattle.expr.specs.Expr.{Constant, Variable, Unary, Not, Neg, Shr, ZExt, SExt, Trunc, Binary, Add, Mul, And, Or, Xor, Concat, Expr, leaf, unary, binary}
+use Rattle.width.specs.WidthLaws.{ranged-yes}
 use Rattle.width.specs.Width.{supported, ranged, valid, unaryWidth, binaryWidth, checkedWidthOf, unaryRule, agree, binaryRule, validateWidths, unaryKeeps, binaryKeeps, isUniformWidth}
 
 both-true : (a b : Bool) → (a && b) ≡ true → (a ≡ true) × (b ≡ true)
@@ -34,21 +35,17 @@ binary-kept Xor l r e = (refl, refl)
 binary-kept Concat l r e = absurd (let z : _≡_ {A = ℕ} 0 1 = cc in omega arith)
 
 module _ (widths : List ℕ) (w : ℕ) (s : supported w ≡ true) where
-  in-range : ranged w ≡ accepted w
-  unfolding ranged
-  in-range = rw s
-
   pub uniform-width : (t : Expr) → isUniformWidth widths w t ≡ true → checkedWidthOf widths w t ≡ accepted w
   unfolding isUniformWidth checkedWidthOf
-  uniform-width (leaf (Constant c)) u = in-range
-  uniform-width (leaf (Variable i)) u = ap ranged (eqb-true (getD widths i w) w u) ∙ in-range
+  uniform-width (leaf (Constant c)) u = ranged-yes w s
+  uniform-width (leaf (Variable i)) u = ap ranged (eqb-true (getD widths i w) w u) ∙ ranged-yes w s
   uniform-width (unary k t) u =
       let p = both-true (unaryKeeps k) (isUniformWidth widths w t) u in
-      ap (λ (o : Outcome ℕ). o andThen ranged) (unary-kept k (checkedWidthOf widths w t) (p .0) .0 ∙ uniform-width t (p .1)) ∙ in-range
+      ap (λ (o : Outcome ℕ). o andThen ranged) (unary-kept k (checkedWidthOf widths w t) (p .0) .0 ∙ uniform-width t (p .1)) ∙ ranged-yes w s
   uniform-width (binary k l r) u =
       let p = both-true (binaryKeeps k) (isUniformWidth widths w l && isUniformWidth widths w r) u in
       let q = both-true (isUniformWidth widths w l) (isUniformWidth widths w r) (p .1) in
-      ap (λ (o : Outcome ℕ). o andThen ranged) (binary-kept k (checkedWidthOf widths w l) (checkedWidthOf widths w r) (p .0) .0 ∙ uniform-width l (q .0)) ∙ in-range
+      ap (λ (o : Outcome ℕ). o andThen ranged) (binary-kept k (checkedWidthOf widths w l) (checkedWidthOf widths w r) (p .0) .0 ∙ uniform-width l (q .0)) ∙ ranged-yes w s
 
   pub uniform-valid : (t : Expr) → isUniformWidth widths w t ≡ true → validateWidths widths w t ≡ valid
   unfolding isUniformWidth validateWidths

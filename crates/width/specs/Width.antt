@@ -5,13 +5,9 @@ use Prim.Native.Nat.{ℕ, _+_}
 use lib.Dec.{leb, ltb, eqb}
 use lib.ListN.{getD}
 use Rattle.arith.specs.Choice.{if_then_else_}
-use Rattle.expr.specs.declared.refusal.Reason.{Reason}
+use Rattle.expr.specs.Refusals.{carrying}
 use Rattle.expr.specs.Outcome.{Outcome, refused, accepted, _andThen_}
 use Rattle.expr.specs.Expr.{Constant, Variable, Unary, Not, Neg, Shr, ZExt, SExt, Trunc, Binary, Add, Mul, And, Or, Xor, Concat, Expr, leaf, unary, binary}
-
--- a refusal with the two values that it carries
-abbrev pub carrying : ℕ → ℕ → ℕ → Reason
-carrying n a b = record { number = n; first = a; second = b }
 
 -- a width is one of 1 to 64
 unfoldable pub supported : ℕ → Bool

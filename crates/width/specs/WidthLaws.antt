@@ -1,11 +1,13 @@
--- Which widths are supported. Assumes nothing.
+-- Which widths are supported, and that the others are refused. Assumes nothing.
 use mathlib.Core.Path.{_≡_, refl, sym, ap, ap₂}
 use mathlib.Core.Bool.{Bool, true, false, _&&_}
 use Prim.Native.Nat.{ℕ, _≤_, _<_}
 use native.Mathlib.Omega.{arith}
 use lib.Dec.{leb}
 use borrow.Author.Tests.{le-leb, lt-leb, leb-true}
-use Rattle.width.specs.Width.{supported}
+use Rattle.expr.specs.Refusals.{carrying}
+use Rattle.expr.specs.Outcome.{refused, accepted}
+use Rattle.width.specs.Width.{supported, ranged}
 
 module _ (w : ℕ) where
   pub in-range : 1 ≤ w → w < 65 → true ≡ supported w
@@ -29,3 +31,11 @@ module _ (w : ℕ) where
       go true true f g h = (leb-true 1 w f, leb-true w 64 g)
       go true false f g h = absurd (let z : _≡_ {A = ℕ} 0 1 = cc in omega arith)
       go false c f g h = absurd (let z : _≡_ {A = ℕ} 0 1 = cc in omega arith)
+
+  pub ranged-yes : supported w ≡ true → ranged w ≡ accepted w
+  unfolding ranged
+  ranged-yes e = rw e
+
+  pub ranged-no : supported w ≡ false → ranged w ≡ refused (carrying 10 w 0)
+  unfolding ranged
+  ranged-no e = rw e

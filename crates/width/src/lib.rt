@@ -12,7 +12,7 @@ ghost use Rattle.expr.specs.Answers.{verdictOutcome};
 ghost use Rattle.expr.specs.Front.{Starts, Read, Gives};
 ghost use Rattle.width.specs.Width.{supported, ranged, unaryWidth, binaryWidth, checkedWidthOf, widthOf, unaryRule, binaryRule, validateWidths, unaryKeeps, binaryKeeps, isUniformWidth};
 ghost use Rattle.width.specs.Answers.{widthOutcome, validityOutcome};
-ghost use Rattle.width.specs.Contracts.{First, FirstOfThree, Over, WidthsOf};
+ghost use Rattle.width.specs.Contracts.{First, FirstOfThree, OwnWidthFirst, WidthsOf};
 use expr::Arity;
 use expr::Counted;
 use expr::Verdict;
@@ -30,7 +30,8 @@ pub enum Validity {
     Refused(Refusal),
 }
 
-// What one walk finds of a subtree: its width, which is refused with 10 if it is not one of 1 to 64, and whether its widths are consistent.
+// What one walk finds of a subtree: its width, or the width that 10 is given for if there is one (65 for Concat of 65 and 0 bits), and
+// whether its widths are consistent. A width is refused exactly if it is not one of 1 to 64, so one number says both.
 struct Widths {
     width: u32,
     validity: Validity,
@@ -108,7 +109,7 @@ fn binary_width(kind: u64, left: u32, right: u32) -> u32
     left
 }
 
-// What a cast to `target` bits asks of its child.
+// What a node asks of its one child: a cast to `target` bits that it fits, any other kind nothing.
 fn unary_rule(kind: u64, target: u32, child: u32) -> Validity
     ensures { λ r. ⌜ ((k : Unary) → kind ≡ unaryNumber k → target ≡ unaryOperand k → validityOutcome r ≡ unaryRule k (accepted child)) ⌝ }
 {
@@ -158,14 +159,21 @@ fn first_of_three(a: Validity, b: Validity, c: Validity) -> Validity
     first_refusal(a, after)
 }
 
-// A node's own width goes before what is below it.
-fn node_validity(width: u32, below: Validity) -> Validity
-    ensures { λ r. ⌜ Over width below r ⌝ }
+fn own_validity(width: u32) -> Validity
+    ensures { λ r. ⌜ OwnWidthFirst width Validity.Valid r ⌝ }
 {
     if !is_supported(width) {
         return Validity::Refused(Refusal::UnsupportedWidth(width));
     }
-    below
+    Validity::Valid
+}
+
+// A node's own width goes before what is below it.
+fn own_width_first(width: u32, below: Validity) -> Validity
+    ensures { λ r. ⌜ OwnWidthFirst width below r ⌝ }
+{
+    let own = own_validity(width);
+    first_refusal(own, below)
 }
 
 fn leaf_widths(kind: u64, operand: u64, var_widths: &[u32], default_w: u32) -> Widths
@@ -174,7 +182,7 @@ fn leaf_widths(kind: u64, operand: u64, var_widths: &[u32], default_w: u32) -> W
     let width = leaf_width(kind, operand, var_widths, default_w);
     Widths {
         width,
-        validity: node_validity(width, Validity::Valid),
+        validity: own_validity(width),
     }
 }
 
@@ -187,7 +195,7 @@ fn unary_widths(kind: u64, operand: u32, child: Widths) -> Widths
     let after_width = first_refusal(child_validity, rule);
     Widths {
         width,
-        validity: node_validity(width, after_width),
+        validity: own_width_first(width, after_width),
     }
 }
 
@@ -201,7 +209,7 @@ fn binary_widths(kind: u64, left: Widths, right: Widths) -> Widths
     let below = first_of_three(left_validity, right_validity, rule);
     Widths {
         width,
-        validity: node_validity(width, below),
+        validity: own_width_first(width, below),
     }
 }
 

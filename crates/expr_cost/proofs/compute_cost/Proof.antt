@@ -1,10 +1,10 @@
 -- `expr_cost::compute_cost` meets its contract. Assumes nothing.
 use borrow.Author.Needs.{needs}
-use Rattle.expr.specs.FrontLaws.{whole-starts, whole-short, answered, turned-down}
+use Rattle.expr.specs.FrontLaws.{tree-starts, tree-short, answered, turned-down}
 use Rattle.expr_cost.proofs.compute_cost.Statement.{statement}
 use Rattle.expr_cost.proofs.compute_cost.Tie as tie
 
-ruleset rules = (needs, whole-starts, whole-short, answered, turned-down)
+ruleset rules = (needs, tree-starts, tree-short, answered, turned-down)
 
 pub compute-cost-spec : {M : Type 1} → statement M
 compute-cost-spec =

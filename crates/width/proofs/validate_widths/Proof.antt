@@ -1,11 +1,11 @@
 -- `width::validate_widths` meets its contract. Assumes nothing.
 use borrow.Author.Needs.{needs}
-use Rattle.expr.specs.FrontLaws.{whole-starts, then-turned-down}
+use Rattle.expr.specs.FrontLaws.{tree-starts, then-turned-down}
 use Rattle.width.proofs.WalkLaws.{validity-answered}
 use Rattle.width.proofs.validate_widths.Statement.{statement}
 use Rattle.width.proofs.validate_widths.Tie as tie
 
-ruleset rules = (needs, whole-starts, then-turned-down, validity-answered)
+ruleset rules = (needs, tree-starts, then-turned-down, validity-answered)
 
 pub validate-widths-spec : {M : Type 1} → statement M
 validate-widths-spec =
