@@ -16,9 +16,15 @@ pub fn answer(request: &str) -> Result<String, String> {
         (_, [numbers]) => of_one_list(name, numbers),
         ("same_words", [left, right]) => Ok(hex(u64::from(same_words(left, right)))),
         ("is_better", [candidate, baseline]) => cost::is_better(candidate, baseline),
-        ("value", [&[w], widths, setting, words]) => value::value(words, narrow(w)?, &fields::all_narrow(widths)?, setting),
-        ("check_one_width", [&[w], widths, words]) => value::check_one_width(words, narrow(w)?, &fields::all_narrow(widths)?),
-        (_, [&[w], widths, words]) => width::answer(name, words, &fields::all_narrow(widths)?, narrow(w)?),
+        ("value", [&[w], widths, setting, words]) => {
+            value::value(words, narrow(w)?, &fields::all_narrow(widths)?, setting)
+        }
+        ("check_one_width", [&[w], widths, words]) => {
+            value::check_one_width(words, narrow(w)?, &fields::all_narrow(widths)?)
+        }
+        (_, [&[w], widths, words]) => {
+            width::answer(name, words, &fields::all_narrow(widths)?, narrow(w)?)
+        }
         _ => Err(format!("no request {name} of {} lists", lists.len())),
     }
 }
@@ -27,7 +33,9 @@ fn of_one_list(name: &str, numbers: &[u64]) -> Result<String, String> {
     match (name, numbers) {
         ("arity_of", &[kind]) => Ok(text(words::arity(kind).map(|n| n as u64))),
         ("check_tree", words) => Ok(of_tree(words, node_count)),
-        ("is_constant_subtree", words) => Ok(of_tree(words, |e| u64::from(expr_utils::is_constant_subtree(e)))),
+        ("is_constant_subtree", words) => Ok(of_tree(words, |e| {
+            u64::from(expr_utils::is_constant_subtree(e))
+        })),
         ("has_var_dep", words) => Ok(of_tree(words, |e| u64::from(expr_utils::has_var_dep(e)))),
         ("span", words) => Ok(text(words::span(words).map(|n| n as u64))),
         ("compute_cost", words) => Ok(cost::compute_cost(words)),
@@ -57,7 +65,11 @@ fn of_tree(words: &[u64], value: impl Fn(&Expr) -> u64) -> String {
 }
 
 pub fn node_count(tree: &Expr) -> u64 {
-    1 + tree.children.iter().map(|child| node_count(child)).sum::<u64>()
+    1 + tree
+        .children
+        .iter()
+        .map(|child| node_count(child))
+        .sum::<u64>()
 }
 
 /// The original compares trees; lists that are none are compared as lists.

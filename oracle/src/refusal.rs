@@ -10,7 +10,11 @@ pub struct Refusal {
 
 /// A refusal that carries zeros.
 pub const fn plain(number: u32) -> Refusal {
-    Refusal { number, first: 0, second: 0 }
+    Refusal {
+        number,
+        first: 0,
+        second: 0,
+    }
 }
 
 /// Refusals 10 to 13 are errors of the original, which tells their numbers in its text alone. Any other error is no answer.
@@ -23,18 +27,32 @@ pub fn of_error(error: &ErrorInfo) -> Result<Refusal, String> {
 
 fn of_text(text: &str) -> Option<Refusal> {
     if let Some(width) = text.strip_prefix("unsupported expression width: ") {
-        return Some(Refusal { number: 10, first: width.parse().ok()?, second: 0 });
+        return Some(Refusal {
+            number: 10,
+            first: width.parse().ok()?,
+            second: 0,
+        });
     }
     let (number, between) = if text.starts_with("width mismatch: operands are ") {
         (11, ["width mismatch: operands are ", " and ", " bits wide"])
     } else if text.starts_with("narrowing extension: ") {
-        (12, ["narrowing extension: ", "-bit target over a ", "-bit child"])
+        (
+            12,
+            ["narrowing extension: ", "-bit target over a ", "-bit child"],
+        )
     } else {
-        (13, ["widening truncation: ", "-bit target over a ", "-bit child"])
+        (
+            13,
+            ["widening truncation: ", "-bit target over a ", "-bit child"],
+        )
     };
     let numbers = text.strip_prefix(between[0])?.strip_suffix(between[2])?;
     let (first, second) = numbers.split_once(between[1])?;
-    Some(Refusal { number, first: first.parse().ok()?, second: second.parse().ok()? })
+    Some(Refusal {
+        number,
+        first: first.parse().ok()?,
+        second: second.parse().ok()?,
+    })
 }
 
 pub fn text(r: Refusal) -> String {

@@ -1,5 +1,5 @@
-//! The calls on trees of one width. The original's evaluator leans on a file that was not published, so a value is left to the
-//! solvers: this file gives the refusals, of which the original decides 8.
+//! The calls on trees of one width. The original's evaluator cannot be compiled without a file that was not published, so a value is
+//! left to the solvers: this file gives the refusals, of which the original decides 8.
 use crate::answer::{node_count, text};
 use crate::core::expr::{Expr, Kind};
 use crate::core::width;
@@ -11,7 +11,9 @@ use std::sync::Arc;
 const TO_SOLVE: &str = "solve";
 
 pub fn check_one_width(words: &[u64], w: u32, widths: &[u32]) -> Result<String, String> {
-    Ok(text(one_width(words, w, widths).map(|tree| node_count(&tree))))
+    Ok(text(
+        one_width(words, w, widths).map(|tree| node_count(&tree)),
+    ))
 }
 
 pub fn value(words: &[u64], w: u32, widths: &[u32], setting: &[u64]) -> Result<String, String> {
@@ -38,5 +40,8 @@ fn has_all_words(tree: &Expr, setting: &[u64]) -> bool {
         Kind::Variable(i) => (i as usize) < setting.len(),
         _ => true,
     };
-    own && tree.children.iter().all(|child| has_all_words(child, setting))
+    own && tree
+        .children
+        .iter()
+        .all(|child| has_all_words(child, setting))
 }
