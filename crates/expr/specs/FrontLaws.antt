@@ -45,7 +45,7 @@ module _ (ws : List ℕ) where
   after : (k o : ℕ) (vs : List ℕ) → ws ≡ k ∷ o ∷ vs → tail 2 ws ≡ vs
   after k o vs e = tail-drop 2 ws ∙ ap (λ (l : List ℕ). drop {A = ℕ} 2 l) e
 
-  pub unary-below : (k : Unary) (t : Expr) → Front ws (unary k t) → Front (tail 2 ws) t
+  unary-below : (k : Unary) (t : Expr) → Front ws (unary k t) → Front (tail 2 ws) t
   unfolding encode operandsOk
   unary-below k t f = record {
     rest = f .rest;
@@ -58,11 +58,11 @@ module _ (ws : List ℕ) where
     unfolding encode
     children-are = after (binaryNumber k) 0 ((encode l ++ encode r) ++ f .rest) (f .words) ∙ append-assoc (encode l) (encode r) (f .rest)
 
-    pub left-below : Front (tail 2 ws) l
+    left-below : Front (tail 2 ws) l
     unfolding operandsOk
     left-below = record { rest = encode r ++ f .rest; words = children-are; operands = and-yes (operandsOk l) (operandsOk r) (f .operands) .0 }
 
-    pub right-below : Front (tail (length (encode l)) (tail 2 ws)) r
+    right-below : Front (tail (length (encode l)) (tail 2 ws)) r
     unfolding operandsOk
     right-below = record {
       rest = f .rest;
@@ -80,7 +80,6 @@ pub record LeafNode (ws : List ℕ) (t : Expr) : Type 0 where
   pub is : t ≡ leaf kind
   pub number-is : getD ws 0 0 ≡ leafNumber kind
   pub operand-is : getD ws 1 0 ≡ leafOperand kind
-  pub in-range : T (operandOk (leafNumber kind) (leafOperand kind))
 
 -- a node over one child, whose words begin after the node's
 pub record UnaryNode (ws : List ℕ) (t : Expr) : Type 0 where
@@ -113,13 +112,12 @@ module _ (ws : List ℕ) (a : Arity) (e : arityOutcome a ≡ arityOf (getD ws 0 
     apart n g h = absurd (h (let z = told t f in cc))
 
   pub leaf-node : (t : Expr) → a ≡ Zero → Front ws t → LeafNode ws t
-  unfolding encode operandsOk
+  unfolding encode
   leaf-node (leaf k) g f = record {
     kind = k;
     is = refl;
     number-is = first-word ws (leaf k) f;
     operand-is = ap (λ (l : List ℕ). getD l 1 0) (f .words);
-    in-range = f .operands;
   }
   leaf-node (unary k t) g f = apart (unary k t) f 0 (ap arityOutcome g) (λ z. omega arith)
   leaf-node (binary k l r) g f = apart (binary k l r) f 0 (ap arityOutcome g) (λ z. omega arith)

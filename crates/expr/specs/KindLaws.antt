@@ -9,7 +9,7 @@ use borrow.Author.Tests.{le-ltb, ne-eqb}
 use Rattle.expr.specs.declared.refusal.Reason.{Reason}
 use Rattle.expr.specs.Refusals.{refusal}
 use Rattle.expr.specs.Outcome.{Outcome, refused, accepted, mapped}
-use Rattle.expr.specs.Expr.{Constant, Variable, Unary, Not, Neg, Shr, ZExt, SExt, Trunc, Add, Mul, And, Or, Xor, Concat, leafNumber, leafOperand, unaryNumber, unaryOperand, binaryNumber}
+use Rattle.expr.specs.Expr.{Constant, Variable, Unary, Not, Neg, Shr, ZExt, SExt, Trunc, Binary, Add, Mul, And, Or, Xor, Concat, leafNumber, leafOperand, unaryNumber, unaryOperand, binaryNumber}
 use Rattle.expr.specs.Parse.{Kind, none, one, two, arity, arityOf, kinds, kindAt, operandOk}
 
 -- the kind word and the operand word
@@ -49,6 +49,10 @@ same-kind κ μ e f =
     let q = kind-back μ in
     let r : kindAt (number κ) (kinds (operand κ)) ≡ kindAt (number μ) (kinds (operand μ)) = (λ i. kindAt (e i) (kinds (f i))) in
     cc
+
+-- a kind with two children holds no number, so its kind word alone tells it
+pub same-binary : (k j : Binary) → binaryNumber k ≡ binaryNumber j → k ≡ j
+same-binary k j e = let f = same-kind (two k) (two j) e refl in cc
 
 -- the kind word tells the number of children
 pub number-arity : (κ : Kind) → arityOf (number κ) ≡ accepted (arity κ)

@@ -1,5 +1,5 @@
 -- The width and the operand rule of a node, by the number of its kind. Assumes nothing.
-use mathlib.Core.Path.{_≡_, refl, sym, ap, ap₂, _∙_}
+use mathlib.Core.Path.{_≡_, refl, sym, ap, ap₂, subst, _∙_}
 use mathlib.Core.Bool.{Bool, true, false, not}
 use mathlib.Core.List.{List, [], _∷_}
 use Prim.Native.Nat.{ℕ, zero, suc, _+_, _≤_, _<_}
@@ -15,6 +15,7 @@ use Rattle.expr.specs.Refusals.{carrying}
 use Rattle.expr.specs.Outcome.{Outcome, refused, accepted, _andThen_}
 use Rattle.expr.specs.OutcomeLaws.{then-accepted, then-refused}
 use Rattle.expr.specs.Expr.{Leaf, Constant, Variable, Unary, Not, Neg, Shr, ZExt, SExt, Trunc, Binary, Add, Mul, And, Or, Xor, Concat, leaf, leafNumber, leafOperand, unaryNumber, unaryOperand, binaryNumber}
+use Rattle.expr.specs.KindLaws.{same-binary}
 use Rattle.width.specs.declared.Validity.the-variants.{Valid, Refused}
 use Rattle.width.specs.Contracts.{OwnWidthFirst}
 use Rattle.width.specs.WidthLaws.{supported-is, ranged-yes, ranged-no}
@@ -169,12 +170,8 @@ pair-by-number Concat a b = refl
 module _ (kind left right : ℕ) where
   pub concat-width : (k : Binary) (w : ℕ) → kind ≡ 13 → kind ≡ binaryNumber k → ranged w ≡ (binaryWidth Concat (ranged left) (ranged right) andThen ranged)
       → ranged w ≡ (binaryWidth k (ranged left) (ranged right) andThen ranged)
-  concat-width Add w g e h = absurd (omega arith)
-  concat-width Mul w g e h = absurd (omega arith)
-  concat-width And w g e h = absurd (omega arith)
-  concat-width Or w g e h = absurd (omega arith)
-  concat-width Xor w g e h = absurd (omega arith)
-  concat-width Concat w g e h = h
+  concat-width k w g e h =
+      subst (λ (j : Binary). ranged w ≡ (binaryWidth j (ranged left) (ranged right) andThen ranged)) (same-binary Concat k (sym g ∙ e)) h
 
   pub left-width : (k : Binary) → (kind ≡ 13 → ⊥) → kind ≡ binaryNumber k → ranged left ≡ (binaryWidth k (ranged left) (ranged right) andThen ranged)
   left-width Add g e = sym (ranged-twice left)
