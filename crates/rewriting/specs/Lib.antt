@@ -1,0 +1,3 @@
+pub mod Optional
+pub mod AtomSimplifier
+pub mod Measures
