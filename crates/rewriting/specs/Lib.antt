@@ -5,3 +5,4 @@ pub mod OptionalLaws
 pub mod TestLaws
 pub mod FoldLaws
 pub mod ValueKeptLaws
+pub mod ShapeLaws

@@ -31,6 +31,10 @@ module _ {A : Type 0} (P : A → Type 0) where
   pub every-at : (o : Option A) {a : A} → Every P o → o ≡ some a → P a
   every-at o h e = subst (Every P) e h
 
+  pub every-each : (Q : A → Type 0) (o : Option A) → ((a : A) → P a → Q a) → Every P o → Every Q o
+  every-each Q none f h = tt
+  every-each Q (some a) f h = f a h
+
 module _ {A B : Type 0} (P : B → Type 0) where
   pub every-map : (o : Option A) {f : A → B} → ((a : A) → o ≡ some a → P (f a)) → Every P (map f o)
   every-map none h = tt

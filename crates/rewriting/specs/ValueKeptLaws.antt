@@ -157,20 +157,21 @@ module _ (w : ℕ) (σ : List ℕ) where
   joined or x d c = ap (bvor (val x)) (mod-mod (bvor d c) (2 ^ w)) ∙ sym (L.or-consts w d c (lt x))
   joined xor x d c = ap (bvxor (val x)) (mod-mod (bvxor d c) (2 ^ w)) ∙ sym (L.xor-consts w d c (lt x))
 
-  keeps-folding : (op : Bitwise) → Folding w op Keeps
+  keeps-folding : (op : Bitwise) → Folding w op Keeps Keeps
   unfolding value
   keeps-folding op = record {
     arm = arms-keep op;
-    right = λ x d c h. h ∙ joined op x d c;
-    left = λ x d c h. h ∙ joined op x d c ∙ ap (λ (n : ℕ). binaryValue w (kindOf op) n (c % 2 ^ w)) (turned op (constant d) x);
-    exchanged = λ l r h. h ∙ turned op l r;
+    right = λ x d c u h. h ∙ joined op x d c;
+    left = λ x d c u h. h ∙ joined op x d c ∙ ap (λ (n : ℕ). binaryValue w (kindOf op) n (c % 2 ^ w)) (turned op (constant d) x);
+    exchanged = λ l r u h. h ∙ turned op l r;
+    weaker = λ t u h. h;
   }
 
   fold-keeps : (op : Bitwise) (l r : Expr) → Every (Keeps (binary (kindOf op) l r)) (foldRewrite w op l r)
   unfolding foldRewrite
   fold-keeps op l r =
       if-case (Every (Keeps (binary (kindOf op) l r))) (samePart w (tryFoldBinary w op l r) (binary (kindOf op) l r)) (λ h. tt)
-      (at-fold w op Keeps (keeps-folding op) l r)
+      (at-fold w op Keeps Keeps (keeps-folding op) l r)
 
   -- ---- the local rewrite
 
