@@ -6,3 +6,4 @@ pub mod TestLaws
 pub mod FoldLaws
 pub mod ValueKeptLaws
 pub mod ShapeLaws
+pub mod SiteLaws
