@@ -47,7 +47,7 @@ module _ (w : ℕ) where
     pub exchanged : (l r u : Expr) → S (binary (kindOf op) r l) u → S (binary (kindOf op) l r) u
     pub weaker : (t u : Expr) → S t u → R t u
 
-  module _ (op : Bitwise) (R S : Expr → Expr → Type 0) (f : Folding op R S) where
+  module _ (op : Bitwise) {R S : Expr → Expr → Type 0} (f : Folding op R S) where
     abbrev node : Expr → Expr → Expr
     node l r = binary (kindOf op) l r
 

@@ -7,3 +7,5 @@ pub mod FoldLaws
 pub mod ValueKeptLaws
 pub mod ShapeLaws
 pub mod SiteLaws
+pub mod MeasureLaws
+pub mod KeptLaws

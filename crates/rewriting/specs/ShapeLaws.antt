@@ -3,7 +3,7 @@ use mathlib.Core.Path.{_≡_, refl, sym, subst, ap}
 use mathlib.Core.Logic.{_⊎_, inl, inr}
 use mathlib.Core.Bool.{_&&_, _||_}
 use mathlib.Core.Option.{Option, none, some}
-use Prim.Native.Nat.{ℕ, _≤_, _<_}
+use Prim.Native.Nat.{ℕ, _+_, _≤_, _<_}
 use native.Mathlib.Omega.{arith}
 use lib.Dec.{T, eqb}
 use Rattle.arith.specs.Bv.{ones}
@@ -46,6 +46,26 @@ pub data DeMorgan : Expr → Expr → Type 0 where
 pub data Change (t u : Expr) : Type 0 where
   less : Less t u → Change t u
   turned-over : DeMorgan t u → Change t u
+
+-- ---- a count of a tree that is cut down
+
+-- f counts nothing in a constant, and in a node what its children have and something for its kind
+pub record Adds (f : Expr → ℕ) : Type 0 where
+  pub in-constant : (c : ℕ) → f (constant c) ≡ 0
+  pub in-unary : (k : Unary) (t : Expr) → f t ≤ f (unary k t)
+  pub in-kind : Binary → ℕ
+  pub in-binary : (k : Binary) (l r : Expr) → f (binary k l r) ≡ in-kind k + f l + f r
+
+module _ (f : Expr → ℕ) (a : Adds f) where
+  pub cut-counts : {t u : Expr} → u ⊑ t → f u ≤ f t
+  cut-counts (to-constant {c} {t}) = omega (arith, a .in-constant c)
+  cut-counts as-it-is = omega arith
+  cut-counts (child {k} {t}) = a .in-unary k t
+  cut-counts (left {k} {l} {r}) = omega (arith, a .in-binary k l r)
+  cut-counts (right {k} {l} {r}) = omega (arith, a .in-binary k l r)
+  cut-counts (both {k} {u} {v} {l} {r} g h) = omega (arith, a .in-binary k u v, a .in-binary k l r, cut-counts g, cut-counts h)
+  cut-counts (turned {k} {l} {r}) = omega (arith, a .in-binary k l r, a .in-binary k r l)
+  cut-counts (after g h) = omega (arith, cut-counts g, cut-counts h)
 
 -- ---- a node and less than it
 
@@ -116,7 +136,7 @@ module _ (w : ℕ) where
 
   fold-change : (op : Bitwise) (l r : Expr) → Every (Change (binary (kindOf op) l r)) (foldRewrite w op l r)
   unfolding foldRewrite
-  fold-change op l r = go (at-fold w op Folds Less (folds-folding op) l r)
+  fold-change op l r = go (at-fold w op (folds-folding op) l r)
     where
       node : Expr
       node = binary (kindOf op) l r

@@ -84,14 +84,17 @@ module _ (w : ℕ) where
     pub left : (k : Binary) (l r u : Expr) → R l u → R (binary k l r) (binary k u r)
     pub right : (k : Binary) (l r u : Expr) → R r u → R (binary k l r) (binary k l u)
 
-  pub at-first : (R : Expr → Expr → Type 0) → Rises R → (t u : Expr) → firstRewrite w t ≡ some u → R t u
+  pub at-first : {R : Expr → Expr → Type 0} → Rises R → (t u : Expr) → firstRewrite w t ≡ some u → R t u
   unfolding replaceAt
-  at-first R p t u e =
+  at-first {R} p t u e =
       every-at (R t) (map (after t) (firstSite w t))
-      (every-map (R t) (firstSite w t) (λ s f. every-at (λ (s : Site). R t (after t s)) (firstSite w t) (at-site (λ (t : Expr) (s : Site). R t (after t s)) climbs t) f))
+      (every-map (R t) (firstSite w t) (λ s f. every-at (S t) (firstSite w t) (at-site S climbs t) f))
       (sym (first-is t) ∙ e)
     where
-      climbs : Climbs (λ (t : Expr) (s : Site). R t (after t s))
+      S : Expr → Site → Type 0
+      S t s = R t (after t s)
+
+      climbs : Climbs S
       climbs = record {
         root = p .here;
         from-one = λ k t s h. p .above k t (after t s) h;

@@ -171,7 +171,7 @@ module _ (w : ℕ) (σ : List ℕ) where
   unfolding foldRewrite
   fold-keeps op l r =
       if-case (Every (Keeps (binary (kindOf op) l r))) (samePart w (tryFoldBinary w op l r) (binary (kindOf op) l r)) (λ h. tt)
-      (at-fold w op Keeps Keeps (keeps-folding op) l r)
+      (at-fold w op (keeps-folding op) l r)
 
   -- ---- the local rewrite
 

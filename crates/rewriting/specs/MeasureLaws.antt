@@ -1,0 +1,135 @@
+-- What a rewrite does to the measures of a tree: first the local rewrite, then the rewrite at the first site. Assumes nothing.
+use mathlib.Core.Path.{_≡_, refl}
+use mathlib.Core.Logic.{_⊎_, inl, inr}
+use mathlib.Core.Option.{some}
+use Prim.Native.Nat.{ℕ, _+_, _*_, _≤_, _<_, max}
+use native.Mathlib.Nat.{le-refl}
+use native.Mathlib.Omega.{arith}
+use Rattle.expr.specs.Expr.{Unary, Not, Neg, Shr, ZExt, SExt, Trunc, Binary, Expr, unary, binary, nodes, depth}
+use Rattle.expr.specs.ExprLaws.{depth-pos}
+use Rattle.rewriting.specs.AtomSimplifier.{localRewrite, firstRewrite}
+use Rattle.rewriting.specs.Measures.{andOr, andOrs, pairs, D}
+use Rattle.rewriting.specs.ShapeLaws.{_⊑_, to-constant, as-it-is, child, left, right, both, turned, after, Less, Dual, and-or, or-and, DeMorgan, over, Change, less, turned-over, Adds, cut-counts, local-change}
+use Rattle.rewriting.specs.SiteLaws.{Rises, at-first}
+
+-- ---- a tree that is cut down
+
+and-ors-add : Adds andOrs
+unfolding andOrs
+and-ors-add = record { in-constant = λ c. refl; in-unary = λ k t. le-refl (andOrs t); in-kind = andOr; in-binary = λ k l r. refl }
+
+D-adds : Adds D
+unfolding D
+D-adds = record { in-constant = λ c. refl; in-unary = λ k t. omega arith; in-kind = λ k. 0; in-binary = λ k l r. omega arith }
+
+cut-depth : {t u : Expr} → u ⊑ t → depth u ≤ depth t
+unfolding depth
+cut-depth (to-constant {c} {t}) = depth-pos t
+cut-depth as-it-is = omega arith
+cut-depth child = omega arith
+cut-depth left = omega arith
+cut-depth right = omega arith
+cut-depth (both g h) = omega (arith, cut-depth g, cut-depth h)
+cut-depth turned = omega arith
+cut-depth (after g h) = omega (arith, cut-depth g, cut-depth h)
+
+-- ---- the local rewrite
+
+-- De Morgan's laws add one node and take one pair from D
+pub record DeMorganStep (t u : Expr) : Type 0 where
+  pub laws : DeMorgan t u
+  pub one-more : nodes u ≡ nodes t + 1
+  pub one-pair-less : D u + 1 ≡ D t
+  pub same-and-ors : andOrs u ≡ andOrs t
+  pub no-deeper : depth u ≤ depth t
+
+-- every other rewrite lowers the number of nodes, and raises neither D nor the number of And and Or nodes
+pub record LowerStep (t u : Expr) : Type 0 where
+  pub fewer : nodes u < nodes t
+  pub pairs-kept : D u ≤ D t
+  pub and-ors-kept : andOrs u ≤ andOrs t
+  pub no-deeper : depth u ≤ depth t
+
+dual-counts : {k j : Binary} → Dual k j → (andOr k ≡ 1) × (andOr j ≡ 1)
+dual-counts and-or = (refl, refl)
+dual-counts or-and = (refl, refl)
+
+de-morgan-step : {t u : Expr} → DeMorgan t u → DeMorganStep t u
+unfolding nodes andOrs D depth
+de-morgan-step (over d h) =
+    let c = dual-counts d in
+    record { laws = over d h; one-more = omega arith; one-pair-less = omega (arith, c .0); same-and-ors = omega (arith, c .0, c .1); no-deeper = omega arith }
+
+lower-step : {t u : Expr} → Less t u → LowerStep t u
+lower-step h = record {
+  fewer = h .fewer;
+  pairs-kept = cut-counts D D-adds (h .cut);
+  and-ors-kept = cut-counts andOrs and-ors-add (h .cut);
+  no-deeper = cut-depth (h .cut);
+}
+
+change-step : {t u : Expr} → Change t u → DeMorganStep t u ⊎ LowerStep t u
+change-step (less h) = inr (lower-step h)
+change-step (turned-over h) = inl (de-morgan-step h)
+
+-- in either step
+step-nodes : {t u : Expr} → DeMorganStep t u ⊎ LowerStep t u → nodes u ≤ nodes t + 1
+step-nodes (inl h) = omega arith
+step-nodes (inr h) = omega arith
+
+step-depth : {t u : Expr} → DeMorganStep t u ⊎ LowerStep t u → depth u ≤ depth t
+step-depth (inl h) = h .no-deeper
+step-depth (inr h) = h .no-deeper
+
+module _ (w : ℕ) (t u : Expr) (e : localRewrite w t ≡ some u) where
+  pub local-steps : DeMorganStep t u ⊎ LowerStep t u
+  local-steps = change-step (local-change w t u e)
+
+  pub local-nodes : nodes u ≤ nodes t + 1
+  local-nodes = step-nodes local-steps
+
+  pub local-depth : depth u ≤ depth t
+  local-depth = step-depth local-steps
+
+-- ---- the rewrite at the first site
+
+-- n + 2 D falls; n + D, the number of And and Or nodes, D and the depth do not rise
+pub record Lower (t u : Expr) : Type 0 where
+  pub falls : nodes u + 2 * D u < nodes t + 2 * D t
+  pub room : nodes u + D u ≤ nodes t + D t
+  pub and-ors-kept : andOrs u ≤ andOrs t
+  pub pairs-kept : D u ≤ D t
+  pub no-deeper : depth u ≤ depth t
+
+step-lower : {t u : Expr} → DeMorganStep t u ⊎ LowerStep t u → Lower t u
+step-lower (inl h) = record { falls = omega arith; room = omega arith; and-ors-kept = omega arith; pairs-kept = omega arith; no-deeper = h .no-deeper }
+step-lower (inr h) = record { falls = omega arith; room = omega arith; and-ors-kept = omega arith; pairs-kept = omega arith; no-deeper = h .no-deeper }
+
+-- the pairs that a node makes do not rise where the And and Or nodes below it do not
+pairs-le : (k : Unary) {m n : ℕ} → m ≤ n → pairs k m ≤ pairs k n
+pairs-le Not h = h
+pairs-le Neg h = omega arith
+pairs-le (Shr i) h = omega arith
+pairs-le (ZExt i) h = omega arith
+pairs-le (SExt i) h = omega arith
+pairs-le (Trunc i) h = omega arith
+
+lower-above : (k : Unary) (t u : Expr) → Lower t u → Lower (unary k t) (unary k u)
+unfolding nodes andOrs D depth
+lower-above k t u h =
+    let p = pairs-le k (h .and-ors-kept) in
+    record { falls = omega arith; room = omega arith; and-ors-kept = h .and-ors-kept; pairs-kept = omega arith; no-deeper = omega arith }
+
+lower-left : (k : Binary) (l r u : Expr) → Lower l u → Lower (binary k l r) (binary k u r)
+unfolding nodes andOrs D depth
+lower-left k l r u h = record { falls = omega arith; room = omega arith; and-ors-kept = omega arith; pairs-kept = omega arith; no-deeper = omega arith }
+
+lower-right : (k : Binary) (l r u : Expr) → Lower r u → Lower (binary k l r) (binary k l u)
+unfolding nodes andOrs D depth
+lower-right k l r u h = record { falls = omega arith; room = omega arith; and-ors-kept = omega arith; pairs-kept = omega arith; no-deeper = omega arith }
+
+lower-rises : (w : ℕ) → Rises w Lower
+lower-rises w = record { here = λ t u e. step-lower (local-steps w t u e); above = lower-above; left = lower-left; right = lower-right }
+
+pub first-lowers : (w : ℕ) (t u : Expr) → firstRewrite w t ≡ some u → Lower t u
+first-lowers w = at-first w (lower-rises w)
