@@ -1,9 +1,9 @@
 -- What a rewrite keeps: the value, one width, and that no variable comes in. Assumes nothing.
 use mathlib.Core.Path.{_≡_, refl, ap}
-use mathlib.Core.Bool.{Bool, true, _&&_, and-eq-true-iff}
+use mathlib.Core.Bool.{true, _&&_, and-eq-true-iff}
 use mathlib.Core.List.{List}
 use mathlib.Core.Option.{some}
-use Prim.Native.Nat.{ℕ, _+_, _≤_}
+use Prim.Native.Nat.{ℕ, _≤_}
 use native.Mathlib.Nat.{le-refl}
 use native.Mathlib.Omega.{arith}
 use Rattle.expr.specs.Expr.{Unary, Not, Binary, Expr, unary, binary}
@@ -12,7 +12,7 @@ use Rattle.width.specs.Width.{unaryKeeps, binaryKeeps, isUniformWidth}
 use Rattle.rewriting.specs.AtomSimplifier.{not, localRewrite, firstRewrite}
 use Rattle.rewriting.specs.Measures.{occurrences}
 use Rattle.rewriting.specs.ValueKeptLaws.{local-keeps}
-use Rattle.rewriting.specs.ShapeLaws.{_⊑_, to-constant, as-it-is, child, left, right, both, turned, after, Dual, and-or, or-and, DeMorgan, over, Change, less, turned-over, Adds, cut-counts, local-change}
+use Rattle.rewriting.specs.ShapeLaws.{_⊑_, to-constant, as-it-is, child, left, right, both, turned, after, Dual, and-or, or-and, over, Change, less, turned-over, Adds, cut-counts, local-change}
 use Rattle.rewriting.specs.SiteLaws.{Rises, at-first}
 
 -- ---- the value
@@ -57,6 +57,10 @@ first-variables w = at-first w (variables-rise w)
 
 -- ---- one width
 
+dual-keeps : {k j : Binary} → Dual k j → binaryKeeps j ≡ true
+dual-keeps and-or = refl
+dual-keeps or-and = refl
+
 module _ (widths : List ℕ) (v : ℕ) where
   abbrev Uniform : Expr → Type 0
   Uniform t = isUniformWidth widths v t ≡ true
@@ -93,10 +97,6 @@ module _ (widths : List ℕ) (v : ℕ) where
   cut-uniform (both {k} {u = x} {v = y} {l} {r} f g) h = let p = under-two k l r h in over-two k x y (p .0) (cut-uniform f (p .1)) (cut-uniform g (p .2))
   cut-uniform (turned {k} {l} {r}) h = let p = under-two k l r h in over-two k r l (p .0) (p .2) (p .1)
   cut-uniform (after f g) h = cut-uniform f (cut-uniform g h)
-
-  dual-keeps : {k j : Binary} → Dual k j → binaryKeeps j ≡ true
-  dual-keeps and-or = refl
-  dual-keeps or-and = refl
 
   change-uniform : {t u : Expr} → Change t u → Uniform t → Uniform u
   change-uniform (less c) h = cut-uniform (c .cut) h

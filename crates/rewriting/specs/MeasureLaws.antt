@@ -2,7 +2,7 @@
 use mathlib.Core.Path.{_≡_, refl}
 use mathlib.Core.Logic.{_⊎_, inl, inr}
 use mathlib.Core.Option.{some}
-use Prim.Native.Nat.{ℕ, _+_, _*_, _≤_, _<_, max}
+use Prim.Native.Nat.{ℕ, _+_, _*_, _≤_, _<_}
 use native.Mathlib.Nat.{le-refl}
 use native.Mathlib.Omega.{arith}
 use Rattle.expr.specs.Expr.{Unary, Not, Neg, Shr, ZExt, SExt, Trunc, Binary, Expr, unary, binary, nodes, depth}
@@ -37,7 +37,7 @@ cut-depth (after g h) = omega (arith, cut-depth g, cut-depth h)
 
 -- De Morgan's laws add one node and take one pair from D
 pub record DeMorganStep (t u : Expr) : Type 0 where
-  pub laws : DeMorgan t u
+  pub turned : DeMorgan t u
   pub one-more : nodes u ≡ nodes t + 1
   pub one-pair-less : D u + 1 ≡ D t
   pub same-and-ors : andOrs u ≡ andOrs t
@@ -46,8 +46,8 @@ pub record DeMorganStep (t u : Expr) : Type 0 where
 -- every other rewrite lowers the number of nodes, and raises neither D nor the number of And and Or nodes
 pub record LowerStep (t u : Expr) : Type 0 where
   pub fewer : nodes u < nodes t
-  pub pairs-kept : D u ≤ D t
-  pub and-ors-kept : andOrs u ≤ andOrs t
+  pub no-more-pairs : D u ≤ D t
+  pub no-more-and-ors : andOrs u ≤ andOrs t
   pub no-deeper : depth u ≤ depth t
 
 dual-counts : {k j : Binary} → Dual k j → (andOr k ≡ 1) × (andOr j ≡ 1)
@@ -58,13 +58,13 @@ de-morgan-step : {t u : Expr} → DeMorgan t u → DeMorganStep t u
 unfolding nodes andOrs D depth
 de-morgan-step (over d h) =
     let c = dual-counts d in
-    record { laws = over d h; one-more = omega arith; one-pair-less = omega (arith, c .0); same-and-ors = omega (arith, c .0, c .1); no-deeper = omega arith }
+    record { turned = over d h; one-more = omega arith; one-pair-less = omega (arith, c .0); same-and-ors = omega (arith, c .0, c .1); no-deeper = omega arith }
 
 lower-step : {t u : Expr} → Less t u → LowerStep t u
 lower-step h = record {
   fewer = h .fewer;
-  pairs-kept = cut-counts D D-adds (h .cut);
-  and-ors-kept = cut-counts andOrs and-ors-add (h .cut);
+  no-more-pairs = cut-counts D D-adds (h .cut);
+  no-more-and-ors = cut-counts andOrs and-ors-add (h .cut);
   no-deeper = cut-depth (h .cut);
 }
 
@@ -97,13 +97,13 @@ module _ (w : ℕ) (t u : Expr) (e : localRewrite w t ≡ some u) where
 pub record Lower (t u : Expr) : Type 0 where
   pub falls : nodes u + 2 * D u < nodes t + 2 * D t
   pub room : nodes u + D u ≤ nodes t + D t
-  pub and-ors-kept : andOrs u ≤ andOrs t
-  pub pairs-kept : D u ≤ D t
+  pub no-more-and-ors : andOrs u ≤ andOrs t
+  pub no-more-pairs : D u ≤ D t
   pub no-deeper : depth u ≤ depth t
 
 step-lower : {t u : Expr} → DeMorganStep t u ⊎ LowerStep t u → Lower t u
-step-lower (inl h) = record { falls = omega arith; room = omega arith; and-ors-kept = omega arith; pairs-kept = omega arith; no-deeper = h .no-deeper }
-step-lower (inr h) = record { falls = omega arith; room = omega arith; and-ors-kept = omega arith; pairs-kept = omega arith; no-deeper = h .no-deeper }
+step-lower (inl h) = record { falls = omega arith; room = omega arith; no-more-and-ors = omega arith; no-more-pairs = omega arith; no-deeper = h .no-deeper }
+step-lower (inr h) = record { falls = omega arith; room = omega arith; no-more-and-ors = omega arith; no-more-pairs = omega arith; no-deeper = h .no-deeper }
 
 -- the pairs that a node makes do not rise where the And and Or nodes below it do not
 pairs-le : (k : Unary) {m n : ℕ} → m ≤ n → pairs k m ≤ pairs k n
@@ -117,16 +117,16 @@ pairs-le (Trunc i) h = omega arith
 lower-above : (k : Unary) (t u : Expr) → Lower t u → Lower (unary k t) (unary k u)
 unfolding nodes andOrs D depth
 lower-above k t u h =
-    let p = pairs-le k (h .and-ors-kept) in
-    record { falls = omega arith; room = omega arith; and-ors-kept = h .and-ors-kept; pairs-kept = omega arith; no-deeper = omega arith }
+    let p = pairs-le k (h .no-more-and-ors) in
+    record { falls = omega arith; room = omega arith; no-more-and-ors = h .no-more-and-ors; no-more-pairs = omega arith; no-deeper = omega arith }
 
 lower-left : (k : Binary) (l r u : Expr) → Lower l u → Lower (binary k l r) (binary k u r)
 unfolding nodes andOrs D depth
-lower-left k l r u h = record { falls = omega arith; room = omega arith; and-ors-kept = omega arith; pairs-kept = omega arith; no-deeper = omega arith }
+lower-left k l r u h = record { falls = omega arith; room = omega arith; no-more-and-ors = omega arith; no-more-pairs = omega arith; no-deeper = omega arith }
 
 lower-right : (k : Binary) (l r u : Expr) → Lower r u → Lower (binary k l r) (binary k l u)
 unfolding nodes andOrs D depth
-lower-right k l r u h = record { falls = omega arith; room = omega arith; and-ors-kept = omega arith; pairs-kept = omega arith; no-deeper = omega arith }
+lower-right k l r u h = record { falls = omega arith; room = omega arith; no-more-and-ors = omega arith; no-more-pairs = omega arith; no-deeper = omega arith }
 
 lower-rises : (w : ℕ) → Rises w Lower
 lower-rises w = record { here = λ t u e. step-lower (local-steps w t u e); above = lower-above; left = lower-left; right = lower-right }

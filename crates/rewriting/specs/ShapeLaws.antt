@@ -2,7 +2,7 @@
 use mathlib.Core.Path.{_≡_, refl, sym, subst, ap}
 use mathlib.Core.Logic.{_⊎_, inl, inr}
 use mathlib.Core.Bool.{_&&_, _||_}
-use mathlib.Core.Option.{Option, none, some}
+use mathlib.Core.Option.{none, some}
 use Prim.Native.Nat.{ℕ, _+_, _≤_, _<_}
 use native.Mathlib.Omega.{arith}
 use lib.Dec.{T, eqb}
@@ -12,9 +12,9 @@ use Rattle.expr.specs.Expr.{Unary, Not, Neg, Shr, ZExt, SExt, Trunc, Binary, Ad
 use Rattle.expr.specs.ExprLaws.{nodes-pos}
 use Rattle.rewriting.specs.Optional.{_isSome_}
 use Rattle.rewriting.specs.OptionalLaws.{Every, if-case, every-onlyIf, every-at}
-use Rattle.rewriting.specs.AtomSimplifier.{constant, not, isNotKind, isNot, constantVal, samePart, areComplements, containsOperand, Bitwise, and, or, xor, kindOf, constantArms, arms, foldedWord, tryFoldBinary, deMorgan, notRewrite, unaryRewrite, foldRewrite, binaryRewrite, localRewrite}
-use Rattle.rewriting.specs.TestLaws.{part-same}
-use Rattle.rewriting.specs.FoldLaws.{Folding, at-fold}
+use Rattle.rewriting.specs.AtomSimplifier.{constant, not, isNotKind, isNot, constantVal, samePart, areComplements, containsOperand, Bitwise, and, or, xor, constantArms, arms, tryFoldBinary, deMorgan, notRewrite, unaryRewrite, foldRewrite, binaryRewrite, localRewrite}
+use Rattle.rewriting.specs.TestLaws.{eq→same-part}
+use Rattle.rewriting.specs.FoldLaws.{node, Folding, at-fold}
 
 infix 4 _⊑_
 -- the left tree is the right one cut down: a part of it, a constant in place of a part, operands exchanged, and these in turn
@@ -82,6 +82,31 @@ module _ (k : Binary) (l r : Expr) where
   unfolding nodes
   less-right = record { cut = right; fewer = omega arith }
 
+-- ---- the local rewrite of a node with one child
+
+de-morgan-change : (k : Binary) (a b : Expr) → T (isNot a || isNot b) → Every (Change (not (binary k a b))) (deMorgan k a b)
+de-morgan-change Add a b h = tt
+de-morgan-change Mul a b h = tt
+de-morgan-change And a b h = turned-over (over and-or h)
+de-morgan-change Or a b h = turned-over (over or-and h)
+de-morgan-change Xor a b h = tt
+de-morgan-change Concat a b h = tt
+
+not-change : (t : Expr) → Every (Change (not t)) (notRewrite t)
+unfolding notRewrite nodes
+not-change (leaf k) = tt
+not-change (unary k t) = every-onlyIf (Change (not (unary k t))) (isNotKind k) (λ h. less (record { cut = after child child; fewer = omega arith }))
+not-change (binary k a b) = if-case (Every (Change (not (binary k a b)))) (isNot a || isNot b) (de-morgan-change k a b) tt
+
+unary-change : (k : Unary) (t : Expr) → Every (Change (unary k t)) (unaryRewrite k t)
+unfolding unaryRewrite nodes
+unary-change Not t = not-change t
+unary-change Neg t = tt
+unary-change (Shr n) t = every-onlyIf (Change (unary (Shr n) t)) (eqb n 0) (λ h. less (record { cut = child; fewer = omega arith }))
+unary-change (ZExt n) t = tt
+unary-change (SExt n) t = tt
+unary-change (Trunc n) t = tt
+
 -- ---- the fold
 
 -- the tree itself, or less
@@ -97,7 +122,7 @@ folds-nodes (inl e) = omega (arith, ap nodes e)
 folds-nodes (inr h) = omega arith
 
 module _ (w : ℕ) where
-  arms-folds : (op : Bitwise) (l r : Expr) → Folds (binary (kindOf op) l r) (arms w op l r)
+  arms-folds : (op : Bitwise) (l r : Expr) → Folds (node op l r) (arms w op l r)
   unfolding arms constantArms
   arms-folds and l r =
       let F = Folds (binary And l r) in
@@ -134,46 +159,22 @@ module _ (w : ℕ) where
     weaker = λ t u h. inr h;
   }
 
-  fold-change : (op : Bitwise) (l r : Expr) → Every (Change (binary (kindOf op) l r)) (foldRewrite w op l r)
+  fold-change : (op : Bitwise) (l r : Expr) → Every (Change (node op l r)) (foldRewrite w op l r)
   unfolding foldRewrite
   fold-change op l r = go (at-fold w op (folds-folding op) l r)
     where
-      node : Expr
-      node = binary (kindOf op) l r
+      C : Expr → Type 0
+      C = Change (node op l r)
 
       folded : Expr
       folded = tryFoldBinary w op l r
 
-      go : Folds node folded → Every (Change node) (foldRewrite w op l r)
-      go (inl e) = subst (Every (Change node)) (sym (if-yes (samePart w folded node) none (some folded) (part-same w folded node e))) tt
-      go (inr h) = if-case (Every (Change node)) (samePart w folded node) (λ p. tt) (less h)
+      go : Folds (node op l r) folded → Every C (foldRewrite w op l r)
+      go (inl e) = subst (Every C) (sym (if-yes (samePart w folded (node op l r)) none (some folded) (eq→same-part w folded (node op l r) e))) tt
+      go (inr h) = if-case (Every C) (samePart w folded (node op l r)) (λ p. tt) (less h)
 
--- ---- the local rewrite
+  -- ---- the local rewrite of a node with two
 
-de-morgan-change : (k : Binary) (a b : Expr) → T (isNot a || isNot b) → Every (Change (not (binary k a b))) (deMorgan k a b)
-de-morgan-change Add a b h = tt
-de-morgan-change Mul a b h = tt
-de-morgan-change And a b h = turned-over (over and-or h)
-de-morgan-change Or a b h = turned-over (over or-and h)
-de-morgan-change Xor a b h = tt
-de-morgan-change Concat a b h = tt
-
-not-change : (t : Expr) → Every (Change (not t)) (notRewrite t)
-unfolding notRewrite nodes
-not-change (leaf k) = tt
-not-change (unary k t) = every-onlyIf (Change (not (unary k t))) (isNotKind k) (λ h. less (record { cut = after child child; fewer = omega arith }))
-not-change (binary k a b) = if-case (Every (Change (not (binary k a b)))) (isNot a || isNot b) (de-morgan-change k a b) tt
-
-unary-change : (k : Unary) (t : Expr) → Every (Change (unary k t)) (unaryRewrite k t)
-unfolding unaryRewrite nodes
-unary-change Not t = not-change t
-unary-change Neg t = tt
-unary-change (Shr n) t = every-onlyIf (Change (unary (Shr n) t)) (eqb n 0) (λ h. less (record { cut = child; fewer = omega arith }))
-unary-change (ZExt n) t = tt
-unary-change (SExt n) t = tt
-unary-change (Trunc n) t = tt
-
-module _ (w : ℕ) where
   binary-change : (k : Binary) (l r : Expr) → Every (Change (binary k l r)) (binaryRewrite w k l r)
   unfolding binaryRewrite
   binary-change Add l r = tt
@@ -182,9 +183,9 @@ module _ (w : ℕ) where
       let C = Every (Change (binary And l r)) in
       if-case C (samePart w l r) (λ h. less (less-left And l r))
       (if-case C ((constantVal w l isSome 3) && (constantVal w r isSome 1)) (λ h. less (less-constant And l r 1))
-      (fold-change w and l r))
-  binary-change Or l r = if-case (Every (Change (binary Or l r))) (samePart w l r) (λ h. less (less-left Or l r)) (fold-change w or l r)
-  binary-change Xor l r = fold-change w xor l r
+      (fold-change and l r))
+  binary-change Or l r = if-case (Every (Change (binary Or l r))) (samePart w l r) (λ h. less (less-left Or l r)) (fold-change or l r)
+  binary-change Xor l r = fold-change xor l r
   binary-change Concat l r = tt
 
   root-change : (t : Expr) → Every (Change t) (localRewrite w t)

@@ -1,6 +1,6 @@
 -- The first site: the whole tree after the rewrite there, the words that it changes, and the one induction by which a property of the
 -- rewrite is proved. Assumes nothing.
-use mathlib.Core.Path.{_≡_, refl, sym, ap, ap₂, subst, _∙_}
+use mathlib.Core.Path.{_≡_, refl, sym, ap, ap₂, _∙_}
 use mathlib.Core.List.{List, [], _∷_, _++_, append-assoc, append-nil}
 use mathlib.Core.Option.{Option, none, some}
 use Prim.Native.Nat.{ℕ, _<_}
@@ -15,6 +15,17 @@ use Rattle.rewriting.specs.AtomSimplifier.{localRewrite, Site, here, bel
 -- the tree with the site's subtree replaced
 abbrev pub after : Expr → Site → Expr
 after t s = replaceAt (s .path) (s .replacement) t
+
+-- ---- words with a part between front and back
+
+behind : (k o : ℕ) {xs ys : List ℕ} → xs ≡ ys → k ∷ o ∷ xs ≡ k ∷ o ∷ ys
+behind k o e = ap (λ (l : List ℕ). k ∷ o ∷ l) e
+
+on-left : {xs : List ℕ} (front part back rest : List ℕ) → xs ≡ front ++ (part ++ back) → xs ++ rest ≡ front ++ (part ++ (back ++ rest))
+on-left front part back rest e = ap (λ (l : List ℕ). l ++ rest) e ∙ simp append-assoc
+
+on-right : {xs : List ℕ} (front part back rest : List ℕ) → xs ≡ front ++ (part ++ back) → rest ++ xs ≡ (rest ++ front) ++ (part ++ back)
+on-right front part back rest e = ap (λ (l : List ℕ). rest ++ l) e ∙ simp append-assoc
 
 -- ---- the whole tree is the one with the first site's subtree replaced
 
@@ -113,16 +124,6 @@ module _ (w : ℕ) where
     pub back : List ℕ
     pub was : encode t ≡ front ++ (encode (subtreeAt (s .path) t) ++ back)
     pub is : encode (after t s) ≡ front ++ (encode (s .replacement) ++ back)
-
-  -- words with a part between front and back: behind a node's own two words, and with the other child's words after them or before them
-  behind : (k o : ℕ) {xs ys : List ℕ} → xs ≡ ys → k ∷ o ∷ xs ≡ k ∷ o ∷ ys
-  behind k o e = ap (λ (l : List ℕ). k ∷ o ∷ l) e
-
-  on-left : {xs : List ℕ} (front part back rest : List ℕ) → xs ≡ front ++ (part ++ back) → xs ++ rest ≡ front ++ (part ++ (back ++ rest))
-  on-left front part back rest e = ap (λ (l : List ℕ). l ++ rest) e ∙ simp append-assoc
-
-  on-right : {xs : List ℕ} (front part back rest : List ℕ) → xs ≡ front ++ (part ++ back) → rest ++ xs ≡ (rest ++ front) ++ (part ++ back)
-  on-right front part back rest e = ap (λ (l : List ℕ). rest ++ l) e ∙ simp append-assoc
 
   sites : Climbs IsSite
   unfolding subtreeAt replaceAt encode depth

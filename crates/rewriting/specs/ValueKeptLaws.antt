@@ -3,7 +3,7 @@ use mathlib.Core.Path.{_≡_, refl, sym, ap, ap₂, _∙_}
 use mathlib.Core.Logic.{⊎-elim}
 use mathlib.Core.Bool.{_&&_, _||_}
 use mathlib.Core.List.{List}
-use mathlib.Core.Option.{Option, none, some}
+use mathlib.Core.Option.{some}
 use Prim.Native.Nat.{ℕ, _%_, _^_, _<_}
 use native.Mathlib.Nat.{mod-mod, mod-eq-of-lt, zero-mod}
 use lib.Dec.{T, eqb, eqb→eq}
@@ -18,8 +18,8 @@ use Rattle.value.specs.ValueLaws.{value-lt}
 use Rattle.rewriting.specs.Optional.{_isSome_}
 use Rattle.rewriting.specs.OptionalLaws.{Every, if-case, every-onlyIf, every-at}
 use Rattle.rewriting.specs.AtomSimplifier.{constant, isNotKind, isNot, sameKind, constantVal, samePart, isNotOf, areComplements, containsOperand, Bitwise, and, or, xor, kindOf, constantArms, arms, foldedWord, tryFoldBinary, deMorgan, notRewrite, unaryRewrite, foldRewrite, binaryRewrite, localRewrite}
-use Rattle.rewriting.specs.TestLaws.{not-kind, kind-is, same-part, not-of, is-constant}
-use Rattle.rewriting.specs.FoldLaws.{Folding, at-fold}
+use Rattle.rewriting.specs.TestLaws.{not-kind→eq, same-kind→eq, same-part→eq, not-of→eq, is-some→eq}
+use Rattle.rewriting.specs.FoldLaws.{node, Folding, at-fold}
 
 module _ (w : ℕ) (σ : List ℕ) where
   abbrev val : Expr → ℕ
@@ -36,7 +36,7 @@ module _ (w : ℕ) (σ : List ℕ) where
 
   constant-val : (t : Expr) (c : ℕ) → T (constantVal w t isSome c) → val t ≡ c % 2 ^ w
   unfolding value
-  constant-val t c h = ap val (is-constant w t c h)
+  constant-val t c h = ap val (is-some→eq w t c h)
 
   zero-val : (t : Expr) → T (constantVal w t isSome 0) → val t ≡ 0
   zero-val t h = constant-val t 0 h ∙ zero-mod (2 ^ w)
@@ -50,10 +50,10 @@ module _ (w : ℕ) (σ : List ℕ) where
   complement-val : (a b : Expr) → T (areComplements w a b) → val b ≡ bvnot w (val a)
   unfolding areComplements value
   complement-val a b h =
-      ⊎-elim (λ p. sym (ap (bvnot w) (ap val (not-of w a b p)) ∙ L.not-not w (lt b))) (λ p. ap val (not-of w b a p))
+      ⊎-elim (λ p. sym (ap (bvnot w) (ap val (not-of→eq w a b p)) ∙ L.not-not w (lt b))) (λ p. ap val (not-of→eq w b a p))
       (or-yes (isNotOf w a b) (isNotOf w b a) h)
 
-  turned : (op : Bitwise) (l r : Expr) → val (binary (kindOf op) r l) ≡ val (binary (kindOf op) l r)
+  turned : (op : Bitwise) (l r : Expr) → val (node op r l) ≡ val (node op l r)
   unfolding value
   turned and l r = and-comm (val r) (val l)
   turned or l r = or-comm (val r) (val l)
@@ -62,17 +62,17 @@ module _ (w : ℕ) (σ : List ℕ) where
   -- the operand beside the one that was found
   record Beside (op : Bitwise) (whole part : Expr) : Type 0 where
     other : Expr
-    is : val whole ≡ val (binary (kindOf op) part other)
+    is : val whole ≡ val (node op part other)
 
   contains-val : (op : Bitwise) (whole part : Expr) → T (containsOperand w whole (kindOf op) part) → Beside op whole part
-  unfolding containsOperand value
+  unfolding containsOperand
   contains-val op (leaf k) part h = absurd h
   contains-val op (unary k t) part h = absurd h
   contains-val op (binary k l r) part h =
       let p = and-yes (sameKind k (kindOf op)) (samePart w l part || samePart w r part) h in
-      let e = ap (λ (j : Binary). val (binary j l r)) (kind-is k (kindOf op) (p .0)) in
-      ⊎-elim (λ q. record { other = r; is = e ∙ ap (λ (t : Expr). val (binary (kindOf op) t r)) (same-part w l part q) })
-      (λ q. record { other = l; is = e ∙ ap (λ (t : Expr). val (binary (kindOf op) l t)) (same-part w r part q) ∙ turned op part l })
+      let e = ap (λ (j : Binary). val (binary j l r)) (same-kind→eq k (kindOf op) (p .0)) in
+      ⊎-elim (λ q. record { other = r; is = e ∙ ap (λ (t : Expr). val (node op t r)) (same-part→eq w l part q) })
+      (λ q. record { other = l; is = e ∙ ap (λ (t : Expr). val (node op l t)) (same-part→eq w r part q) ∙ turned op part l })
       (or-yes (samePart w l part) (samePart w r part) (p .1))
 
   -- ---- the arms of the fold, for what stands on the right
@@ -120,7 +120,7 @@ module _ (w : ℕ) (σ : List ℕ) where
 
   -- ---- the fold
 
-  arms-keep : (op : Bitwise) (l r : Expr) → Keeps (binary (kindOf op) l r) (arms w op l r)
+  arms-keep : (op : Bitwise) (l r : Expr) → Keeps (node op l r) (arms w op l r)
   unfolding arms constantArms
   arms-keep and l r =
       let K = Keeps (binary And l r) in
@@ -151,7 +151,7 @@ module _ (w : ℕ) (σ : List ℕ) where
 
   -- two constants as one
   joined : (op : Bitwise) (x : Expr) (d c : ℕ)
-      → val (binary (kindOf op) x (constant (foldedWord w op d c))) ≡ val (binary (kindOf op) (binary (kindOf op) x (constant d)) (constant c))
+      → val (node op x (constant (foldedWord w op d c))) ≡ val (node op (node op x (constant d)) (constant c))
   unfolding value
   joined and x d c = ap (bvand (val x)) (mod-mod (bvand d c) (2 ^ w)) ∙ sym (L.and-consts w d c (lt x))
   joined or x d c = ap (bvor (val x)) (mod-mod (bvor d c) (2 ^ w)) ∙ sym (L.or-consts w d c (lt x))
@@ -167,10 +167,10 @@ module _ (w : ℕ) (σ : List ℕ) where
     weaker = λ t u h. h;
   }
 
-  fold-keeps : (op : Bitwise) (l r : Expr) → Every (Keeps (binary (kindOf op) l r)) (foldRewrite w op l r)
+  fold-keeps : (op : Bitwise) (l r : Expr) → Every (Keeps (node op l r)) (foldRewrite w op l r)
   unfolding foldRewrite
   fold-keeps op l r =
-      if-case (Every (Keeps (binary (kindOf op) l r))) (samePart w (tryFoldBinary w op l r) (binary (kindOf op) l r)) (λ h. tt)
+      if-case (Every (Keeps (node op l r))) (samePart w (tryFoldBinary w op l r) (node op l r)) (λ h. tt)
       (at-fold w op (keeps-folding op) l r)
 
   -- ---- the local rewrite
@@ -189,7 +189,7 @@ module _ (w : ℕ) (σ : List ℕ) where
   not-keeps (leaf k) = tt
   not-keeps (unary k t) =
       every-onlyIf (Keeps (unary Not (unary k t))) (isNotKind k)
-      (λ h. sym (ap (λ (j : Unary). bvnot w (unaryValue w j (val t))) (not-kind k h) ∙ L.not-not w (lt t)))
+      (λ h. sym (ap (λ (j : Unary). bvnot w (unaryValue w j (val t))) (not-kind→eq k h) ∙ L.not-not w (lt t)))
   not-keeps (binary k a b) = if-case (Every (Keeps (unary Not (binary k a b)))) (isNot a || isNot b) (λ h. de-morgan-keeps k a b) tt
 
   unary-keeps : (k : Unary) (t : Expr) → Every (Keeps (unary k t)) (unaryRewrite k t)
@@ -208,13 +208,13 @@ module _ (w : ℕ) (σ : List ℕ) where
   binary-keeps Add l r = tt
   binary-keeps Mul l r = tt
   binary-keeps And l r =
-      if-case (Every (Keeps (binary And l r))) (samePart w l r) (λ h. sym (ap (bvand (val l)) (sym (ap val (same-part w l r h))) ∙ and-self (val l)))
+      if-case (Every (Keeps (binary And l r))) (samePart w l r) (λ h. sym (ap (bvand (val l)) (sym (ap val (same-part→eq w l r h))) ∙ and-self (val l)))
       (if-case (Every (Keeps (binary And l r))) ((constantVal w l isSome 3) && (constantVal w r isSome 1))
       (λ h. let p = and-yes (constantVal w l isSome 3) (constantVal w r isSome 1) h in
       and-mod 3 1 w ∙ sym (ap₂ bvand (constant-val l 3 (p .0)) (constant-val r 1 (p .1))))
       (fold-keeps and l r))
   binary-keeps Or l r =
-      if-case (Every (Keeps (binary Or l r))) (samePart w l r) (λ h. sym (ap (bvor (val l)) (sym (ap val (same-part w l r h))) ∙ or-self (val l)))
+      if-case (Every (Keeps (binary Or l r))) (samePart w l r) (λ h. sym (ap (bvor (val l)) (sym (ap val (same-part→eq w l r h))) ∙ or-self (val l)))
       (fold-keeps or l r)
   binary-keeps Xor l r = fold-keeps xor l r
   binary-keeps Concat l r = tt
