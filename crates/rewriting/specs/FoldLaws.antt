@@ -5,7 +5,7 @@ use Prim.Native.Nat.{ℕ}
 use Rattle.arith.specs.Choice.{if_then_else_}
 use Rattle.expr.specs.Expr.{Binary, Expr, leaf, unary, binary}
 use Rattle.rewriting.specs.Optional.{map, _andThen_, _orElse_, _otherwise_}
-use Rattle.rewriting.specs.OptionalLaws.{Every, if-case, otherwise-case, every-each, every-orElse, every-map, every-andThen}
+use Rattle.rewriting.specs.OptionalLaws.{Every, if-case, otherwise-case, every-on, every-orElse, every-map, every-andThen}
 use Rattle.rewriting.specs.AtomSimplifier.{constant, sameKind, constantVal, Bitwise, kindOf, arms, foldedWord, reassociateConstant, tryFoldBinary}
 use Rattle.rewriting.specs.TestLaws.{same-kind→eq, constant-val→eq}
 
@@ -31,9 +31,9 @@ module _ (w : ℕ) where
   pub reassociate-is : (op : Bitwise) (k : Binary) (l r : Expr) (c : ℕ)
       → reassociateConstant w op (binary k l r) c
       ≡ (if sameKind k (kindOf op) then
-        (map (λ d. tryFoldBinary w op l (constant (foldedWord w op d c))) (constantVal w r)
-        orElse map (λ d. tryFoldBinary w op r (constant (foldedWord w op d c))) (constantVal w l))
-        else none)
+      (map (λ d. tryFoldBinary w op l (constant (foldedWord w op d c))) (constantVal w r)
+      orElse map (λ d. tryFoldBinary w op r (constant (foldedWord w op d c))) (constantVal w l))
+      else none)
   unfolding reassociateConstant
   reassociate-is op k l r c = λ i.
       if sameKind k (kindOf op) then
@@ -43,13 +43,13 @@ module _ (w : ℕ) where
 
   -- ---- the induction
 
-  -- what makes R hold between each node and its fold, and S between each node and what it is reassociated to
+  -- what makes R hold between each node and its fold; S, which may say more, is to hold between a node and what reassociation makes of it
   pub record Folding (op : Bitwise) (R S : Expr → Expr → Type 0) : Type 0 where
     pub arm : (l r : Expr) → R (node op l r) (arms w op l r)
     -- from `x op (d op c)` to `(x op d) op c` and to `(d op x) op c`
     pub right : (x : Expr) (d c : ℕ) (u : Expr) → R (node op x (constant (foldedWord w op d c))) u → S (node op (node op x (constant d)) (constant c)) u
     pub left : (x : Expr) (d c : ℕ) (u : Expr) → R (node op x (constant (foldedWord w op d c))) u → S (node op (node op (constant d) x) (constant c)) u
-    pub exchanged : (l r u : Expr) → S (node op r l) u → S (node op l r) u
+    pub swapped : (l r u : Expr) → S (node op r l) u → S (node op l r) u
     pub weaker : (t u : Expr) → S t u → R t u
 
   module _ (op : Bitwise) {R S : Expr → Expr → Type 0} (f : Folding op R S) where
@@ -58,7 +58,7 @@ module _ (w : ℕ) where
         → R (node op t (constant c)) (reassociateConstant w op t c otherwise arms w op t (constant c))
     again t c h =
         let n = node op t (constant c) in
-        otherwise-case (R n) (reassociateConstant w op t c) (every-each (S n) (R n) (reassociateConstant w op t c) (f .weaker n) h) (f .arm t (constant c))
+        otherwise-case (R n) (reassociateConstant w op t c) (every-on (S n) (R n) (reassociateConstant w op t c) (f .weaker n) h) (f .arm t (constant c))
 
     inside : {s t : Expr} (c : ℕ) {u : Expr} → s ≡ t → S (node op s (constant c)) u → S (node op t (constant c)) u
     inside c {u} e h = subst (λ (s : Expr). S (node op s (constant c)) u) e h
@@ -85,11 +85,11 @@ module _ (w : ℕ) where
         let first = constantVal w r andThen reassociateConstant w op l in
         let second = constantVal w l andThen reassociateConstant w op r in
         otherwise-case (R n) (first orElse second)
-        (every-each (S n) (R n) (first orElse second) (f .weaker n)
+        (every-on (S n) (R n) (first orElse second) (f .weaker n)
         (every-orElse (S n) first second
         (every-andThen (S n) (constantVal w r) (reassociateConstant w op l) (λ c e.
         subst (λ (t : Expr). Every (S (node op l t)) (reassociateConstant w op l c)) (sym (constant-val→eq w r c e)) (reassociated l c)))
         (every-andThen (S n) (constantVal w l) (reassociateConstant w op r) (λ c e.
-        every-each (S (node op r l)) (S n) (reassociateConstant w op r c) (f .exchanged l r)
+        every-on (S (node op r l)) (S n) (reassociateConstant w op r c) (f .swapped l r)
         (subst (λ (t : Expr). Every (S (node op r t)) (reassociateConstant w op r c)) (sym (constant-val→eq w l c e)) (reassociated r c))))))
         (f .arm l r)

@@ -12,7 +12,7 @@ use Rattle.width.specs.Width.{unaryKeeps, binaryKeeps, isUniformWidth}
 use Rattle.rewriting.specs.AtomSimplifier.{not, localRewrite, firstRewrite}
 use Rattle.rewriting.specs.Measures.{occurrences}
 use Rattle.rewriting.specs.ValueKeptLaws.{local-keeps}
-use Rattle.rewriting.specs.ShapeLaws.{_⊑_, to-constant, as-it-is, child, left, right, both, turned, after, Dual, and-or, or-and, over, Change, less, turned-over, Adds, cut-counts, local-change}
+use Rattle.rewriting.specs.ShapeLaws.{_⊑_, to-constant, as-it-is, child, left, right, both, swapped, in-turn, Dual, and-or, or-and, over, Change, less, turned-over, Adds, cut-counts, local-change}
 use Rattle.rewriting.specs.SiteLaws.{Rises, at-first}
 
 -- ---- the value
@@ -95,8 +95,8 @@ module _ (widths : List ℕ) (v : ℕ) where
   cut-uniform (left {k} {l} {r}) h = under-two k l r h .1
   cut-uniform (right {k} {l} {r}) h = under-two k l r h .2
   cut-uniform (both {k} {u = x} {v = y} {l} {r} f g) h = let p = under-two k l r h in over-two k x y (p .0) (cut-uniform f (p .1)) (cut-uniform g (p .2))
-  cut-uniform (turned {k} {l} {r}) h = let p = under-two k l r h in over-two k r l (p .0) (p .2) (p .1)
-  cut-uniform (after f g) h = cut-uniform f (cut-uniform g h)
+  cut-uniform (swapped {k} {l} {r}) h = let p = under-two k l r h in over-two k r l (p .0) (p .2) (p .1)
+  cut-uniform (in-turn f g) h = cut-uniform f (cut-uniform g h)
 
   change-uniform : {t u : Expr} → Change t u → Uniform t → Uniform u
   change-uniform (less c) h = cut-uniform (c .cut) h

@@ -9,7 +9,7 @@ use Rattle.expr.specs.Expr.{Unary, Not, Neg, Shr, ZExt, SExt, Trunc, Binary, Ex
 use Rattle.expr.specs.ExprLaws.{depth-pos}
 use Rattle.rewriting.specs.AtomSimplifier.{localRewrite, firstRewrite}
 use Rattle.rewriting.specs.Measures.{andOr, andOrs, pairs, D}
-use Rattle.rewriting.specs.ShapeLaws.{_⊑_, to-constant, as-it-is, child, left, right, both, turned, after, Less, Dual, and-or, or-and, DeMorgan, over, Change, less, turned-over, Adds, cut-counts, local-change}
+use Rattle.rewriting.specs.ShapeLaws.{_⊑_, to-constant, as-it-is, child, left, right, both, swapped, in-turn, Less, Dual, and-or, or-and, DeMorgan, over, Change, less, turned-over, Adds, cut-counts, local-change}
 use Rattle.rewriting.specs.SiteLaws.{Rises, at-first}
 
 -- ---- a tree that is cut down
@@ -30,8 +30,8 @@ cut-depth child = omega arith
 cut-depth left = omega arith
 cut-depth right = omega arith
 cut-depth (both g h) = omega (arith, cut-depth g, cut-depth h)
-cut-depth turned = omega arith
-cut-depth (after g h) = omega (arith, cut-depth g, cut-depth h)
+cut-depth swapped = omega arith
+cut-depth (in-turn g h) = omega (arith, cut-depth g, cut-depth h)
 
 -- ---- the local rewrite
 

@@ -31,9 +31,9 @@ module _ {A : Type 0} (P : A → Type 0) where
   pub every-at : (o : Option A) {a : A} → Every P o → o ≡ some a → P a
   every-at o h e = subst (Every P) e h
 
-  pub every-each : (Q : A → Type 0) (o : Option A) → ((a : A) → P a → Q a) → Every P o → Every Q o
-  every-each Q none f h = tt
-  every-each Q (some a) f h = f a h
+  pub every-on : (Q : A → Type 0) (o : Option A) → ((a : A) → P a → Q a) → Every P o → Every Q o
+  every-on Q none f h = tt
+  every-on Q (some a) f h = f a h
 
 module _ {A B : Type 0} (P : B → Type 0) where
   pub every-map : (o : Option A) {f : A → B} → ((a : A) → o ≡ some a → P (f a)) → Every P (map f o)
@@ -43,3 +43,8 @@ module _ {A B : Type 0} (P : B → Type 0) where
   pub every-andThen : (o : Option A) (f : A → Option B) → ((a : A) → o ≡ some a → Every P (f a)) → Every P (o andThen f)
   every-andThen none f h = tt
   every-andThen (some a) f h = h a refl
+
+module _ {A B : Type 0} (P : A → Type 0) (Q : B → Type 0) where
+  pub every-map-on : (o : Option A) {f : A → B} → ((a : A) → P a → Q (f a)) → Every P o → Every Q (map f o)
+  every-map-on none g h = tt
+  every-map-on (some a) g h = g a h

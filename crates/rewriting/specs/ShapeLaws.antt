@@ -17,7 +17,7 @@ use Rattle.rewriting.specs.TestLaws.{eq→same-part}
 use Rattle.rewriting.specs.FoldLaws.{node, Folding, at-fold}
 
 infix 4 _⊑_
--- the left tree is the right one cut down: a part of it, a constant in place of a part, operands exchanged, and these in turn
+-- the left tree is the right one cut down: a part of it, a constant in its place, its operands swapped, any of these again and again
 pub data _⊑_ : Expr → Expr → Type 0 where
   to-constant : {c : ℕ} {t : Expr} → constant c ⊑ t
   as-it-is : {t : Expr} → t ⊑ t
@@ -25,8 +25,8 @@ pub data _⊑_ : Expr → Expr → Type 0 where
   left : {k : Binary} {l r : Expr} → l ⊑ binary k l r
   right : {k : Binary} {l r : Expr} → r ⊑ binary k l r
   both : {k : Binary} {u v l r : Expr} → u ⊑ l → v ⊑ r → binary k u v ⊑ binary k l r
-  turned : {k : Binary} {l r : Expr} → binary k r l ⊑ binary k l r
-  after : {s t u : Expr} → u ⊑ s → s ⊑ t → u ⊑ t
+  swapped : {k : Binary} {l r : Expr} → binary k r l ⊑ binary k l r
+  in-turn : {s t u : Expr} → u ⊑ s → s ⊑ t → u ⊑ t
 
 -- t is cut down to u, and u has fewer nodes
 pub record Less (t u : Expr) : Type 0 where
@@ -38,7 +38,7 @@ pub data Dual : Binary → Binary → Type 0 where
   and-or : Dual And Or
   or-and : Dual Or And
 
--- a Not over an And or Or with a Not under it is turned over
+-- De Morgan's laws, where a Not stands directly under the And or Or
 pub data DeMorgan : Expr → Expr → Type 0 where
   over : {k j : Binary} {a b : Expr} → Dual k j → T (isNot a || isNot b) → DeMorgan (not (binary k a b)) (binary j (not a) (not b))
 
@@ -49,7 +49,7 @@ pub data Change (t u : Expr) : Type 0 where
 
 -- ---- a count of a tree that is cut down
 
--- f counts nothing in a constant, and in a node what its children have and something for its kind
+-- f counts nothing in a constant, and in a node at least what it counts in the children: with two, their sum and a number for the kind
 pub record Adds (f : Expr → ℕ) : Type 0 where
   pub in-constant : (c : ℕ) → f (constant c) ≡ 0
   pub in-unary : (k : Unary) (t : Expr) → f t ≤ f (unary k t)
@@ -64,8 +64,8 @@ module _ (f : Expr → ℕ) (a : Adds f) where
   cut-counts (left {k} {l} {r}) = omega (arith, a .in-binary k l r)
   cut-counts (right {k} {l} {r}) = omega (arith, a .in-binary k l r)
   cut-counts (both {k} {u} {v} {l} {r} g h) = omega (arith, a .in-binary k u v, a .in-binary k l r, cut-counts g, cut-counts h)
-  cut-counts (turned {k} {l} {r}) = omega (arith, a .in-binary k l r, a .in-binary k r l)
-  cut-counts (after g h) = omega (arith, cut-counts g, cut-counts h)
+  cut-counts (swapped {k} {l} {r}) = omega (arith, a .in-binary k l r, a .in-binary k r l)
+  cut-counts (in-turn g h) = omega (arith, cut-counts g, cut-counts h)
 
 -- ---- a node and less than it
 
@@ -95,7 +95,7 @@ de-morgan-change Concat a b h = tt
 not-change : (t : Expr) → Every (Change (not t)) (notRewrite t)
 unfolding notRewrite nodes
 not-change (leaf k) = tt
-not-change (unary k t) = every-onlyIf (Change (not (unary k t))) (isNotKind k) (λ h. less (record { cut = after child child; fewer = omega arith }))
+not-change (unary k t) = every-onlyIf (Change (not (unary k t))) (isNotKind k) (λ h. less (record { cut = in-turn child child; fewer = omega arith }))
 not-change (binary k a b) = if-case (Every (Change (not (binary k a b)))) (isNot a || isNot b) (de-morgan-change k a b) tt
 
 unary-change : (k : Unary) (t : Expr) → Every (Change (unary k t)) (unaryRewrite k t)
@@ -109,7 +109,7 @@ unary-change (Trunc n) t = tt
 
 -- ---- the fold
 
--- the tree itself, or less
+-- the fold leaves the tree as it is, or makes it less
 abbrev Folds : Expr → Expr → Type 0
 Folds t u = (u ≡ t) ⊎ Less t u
 
@@ -153,9 +153,9 @@ module _ (w : ℕ) where
   unfolding nodes
   folds-folding op = record {
     arm = arms-folds op;
-    right = λ x d c u f. record { cut = after (folds-cut f) (both left to-constant); fewer = omega (arith, folds-nodes f) };
-    left = λ x d c u f. record { cut = after (folds-cut f) (both right to-constant); fewer = omega (arith, folds-nodes f) };
-    exchanged = λ l r u h. record { cut = after (h .cut) turned; fewer = omega arith };
+    right = λ x d c u f. record { cut = in-turn (folds-cut f) (both left to-constant); fewer = omega (arith, folds-nodes f) };
+    left = λ x d c u f. record { cut = in-turn (folds-cut f) (both right to-constant); fewer = omega (arith, folds-nodes f) };
+    swapped = λ l r u h. record { cut = in-turn (h .cut) swapped; fewer = omega arith };
     weaker = λ t u h. inr h;
   }
 

@@ -9,25 +9,14 @@ use lib.ListN.{length}
 use Rattle.expr.specs.Expr.{Unary, Binary, Expr, leaf, unary, binary, unaryNumber, unaryOperand, binaryNumber, encode, depth}
 use Rattle.expr.specs.ExprLaws.{depth-pos}
 use Rattle.rewriting.specs.Optional.{map, _orElse_}
-use Rattle.rewriting.specs.OptionalLaws.{Every, every-orElse, every-map, every-at}
+use Rattle.rewriting.specs.OptionalLaws.{Every, every-orElse, every-map, every-map-on, every-at}
 use Rattle.rewriting.specs.AtomSimplifier.{localRewrite, Site, here, below, firstSite, firstRewrite, subtreeAt, replaceAt}
 
 -- the tree with the site's subtree replaced
 abbrev pub after : Expr → Site → Expr
 after t s = replaceAt (s .path) (s .replacement) t
 
--- ---- words with a part between front and back
-
-behind : (k o : ℕ) {xs ys : List ℕ} → xs ≡ ys → k ∷ o ∷ xs ≡ k ∷ o ∷ ys
-behind k o e = ap (λ (l : List ℕ). k ∷ o ∷ l) e
-
-on-left : {xs : List ℕ} (front part back rest : List ℕ) → xs ≡ front ++ (part ++ back) → xs ++ rest ≡ front ++ (part ++ (back ++ rest))
-on-left front part back rest e = ap (λ (l : List ℕ). l ++ rest) e ∙ simp append-assoc
-
-on-right : {xs : List ℕ} (front part back rest : List ℕ) → xs ≡ front ++ (part ++ back) → rest ++ xs ≡ (rest ++ front) ++ (part ++ back)
-on-right front part back rest e = ap (λ (l : List ℕ). rest ++ l) e ∙ simp append-assoc
-
--- ---- the whole tree is the one with the first site's subtree replaced
+-- ---- the whole tree after the rewrite
 
 at-root : (t : Expr) (o : Option Expr) → o ≡ map (after t) (map here o)
 unfolding replaceAt
@@ -61,7 +50,7 @@ module _ (w : ℕ) where
 
   -- ---- the induction
 
-  -- S of a tree and a site in it: it holds of a local rewrite at the root, and goes up through every node
+  -- what makes S hold between each tree and its first site: it holds of a local rewrite at the root, and goes up through every node
   record Climbs (S : Expr → Site → Type 0) : Type 0 where
     root : (t u : Expr) → localRewrite w t ≡ some u → S t (here u)
     from-one : (k : Unary) (t : Expr) (s : Site) → S t s → S (unary k t) (below 0 s)
@@ -77,18 +66,14 @@ module _ (w : ℕ) where
     at-site (leaf k) = own (leaf k)
     at-site (unary k t) =
         let Q = S (unary k t) in
-        every-orElse Q (map (below 0) (firstSite w t)) _
-        (every-map Q (firstSite w t) (λ s e. c .from-one k t s (every-at (S t) (firstSite w t) (at-site t) e)))
-        (own (unary k t))
+        every-orElse Q (map (below 0) (firstSite w t)) _ (every-map-on (S t) Q (firstSite w t) (c .from-one k t) (at-site t)) (own (unary k t))
     at-site (binary k l r) =
         let Q = S (binary k l r) in
-        every-orElse Q (map (below 0) (firstSite w l)) _
-        (every-map Q (firstSite w l) (λ s e. c .from-left k l r s (every-at (S l) (firstSite w l) (at-site l) e)))
-        (every-orElse Q (map (below 1) (firstSite w r)) _
-        (every-map Q (firstSite w r) (λ s e. c .from-right k l r s (every-at (S r) (firstSite w r) (at-site r) e)))
+        every-orElse Q (map (below 0) (firstSite w l)) _ (every-map-on (S l) Q (firstSite w l) (c .from-left k l r) (at-site l))
+        (every-orElse Q (map (below 1) (firstSite w r)) _ (every-map-on (S r) Q (firstSite w r) (c .from-right k l r) (at-site r))
         (own (binary k l r)))
 
-  -- R of a tree and the tree after a rewrite, the same way
+  -- the same for R between each tree and the tree after the rewrite at its first site
   pub record Rises (R : Expr → Expr → Type 0) : Type 0 where
     pub here : (t u : Expr) → localRewrite w t ≡ some u → R t u
     pub above : (k : Unary) (t u : Expr) → R t u → R (unary k t) (unary k u)
@@ -99,7 +84,7 @@ module _ (w : ℕ) where
   unfolding replaceAt
   at-first {R} p t u e =
       every-at (R t) (map (after t) (firstSite w t))
-      (every-map (R t) (firstSite w t) (λ s f. every-at (S t) (firstSite w t) (at-site S climbs t) f))
+      (every-map-on (S t) (R t) (firstSite w t) (λ s h. h) (at-site S climbs t))
       (sym (first-is t) ∙ e)
     where
       S : Expr → Site → Type 0
@@ -113,8 +98,19 @@ module _ (w : ℕ) where
         from-right = λ k l r s h. p .right k l r (after r s) h;
       }
 
-  -- ---- the words
+-- ---- the words
 
+-- a part of the words stands between a front and a back: behind a node's own two words, and in the left child's or the right child's
+behind : (k o : ℕ) {xs ys : List ℕ} → xs ≡ ys → k ∷ o ∷ xs ≡ k ∷ o ∷ ys
+behind k o e = ap (λ (l : List ℕ). k ∷ o ∷ l) e
+
+on-left : {xs : List ℕ} (front part back rest : List ℕ) → xs ≡ front ++ (part ++ back) → xs ++ rest ≡ front ++ (part ++ (back ++ rest))
+on-left front part back rest e = ap (λ (l : List ℕ). l ++ rest) e ∙ simp append-assoc
+
+on-right : {xs : List ℕ} (front part back rest : List ℕ) → xs ≡ front ++ (part ++ back) → rest ++ xs ≡ (rest ++ front) ++ (part ++ back)
+on-right front part back rest e = ap (λ (l : List ℕ). rest ++ l) e ∙ simp append-assoc
+
+module _ (w : ℕ) where
   -- s is a site of t: its subtree has the replacement for its local rewrite, its path is shorter than the tree is deep, and of the words of t
   -- those of the subtree alone are replaced
   pub record IsSite (t : Expr) (s : Site) : Type 0 where
@@ -125,7 +121,7 @@ module _ (w : ℕ) where
     pub was : encode t ≡ front ++ (encode (subtreeAt (s .path) t) ++ back)
     pub is : encode (after t s) ≡ front ++ (encode (s .replacement) ++ back)
 
-  sites : Climbs IsSite
+  sites : Climbs w IsSite
   unfolding subtreeAt replaceAt encode depth
   sites = record {
     root = λ t u e. record { rule = e; short = omega (arith, depth-pos t); front = []; back = []; was = sym (append-nil (encode t)); is = sym (append-nil (encode u)) };
@@ -156,4 +152,4 @@ module _ (w : ℕ) where
   }
 
   pub first-site : (t : Expr) (s : Site) → firstSite w t ≡ some s → IsSite t s
-  first-site t s e = every-at (IsSite t) (firstSite w t) (at-site IsSite sites t) e
+  first-site t s e = every-at (IsSite t) (firstSite w t) (at-site w IsSite sites t) e

@@ -53,11 +53,11 @@ module _ (w : ℕ) (σ : List ℕ) where
       ⊎-elim (λ p. sym (ap (bvnot w) (ap val (not-of→eq w a b p)) ∙ L.not-not w (lt b))) (λ p. ap val (not-of→eq w b a p))
       (or-yes (isNotOf w a b) (isNotOf w b a) h)
 
-  turned : (op : Bitwise) (l r : Expr) → val (node op r l) ≡ val (node op l r)
+  swap-val : (op : Bitwise) (l r : Expr) → val (node op r l) ≡ val (node op l r)
   unfolding value
-  turned and l r = and-comm (val r) (val l)
-  turned or l r = or-comm (val r) (val l)
-  turned xor l r = xor-comm (val r) (val l)
+  swap-val and l r = and-comm (val r) (val l)
+  swap-val or l r = or-comm (val r) (val l)
+  swap-val xor l r = xor-comm (val r) (val l)
 
   -- the operand beside the one that was found
   record Beside (op : Bitwise) (whole part : Expr) : Type 0 where
@@ -72,7 +72,7 @@ module _ (w : ℕ) (σ : List ℕ) where
       let p = and-yes (sameKind k (kindOf op)) (samePart w l part || samePart w r part) h in
       let e = ap (λ (j : Binary). val (binary j l r)) (same-kind→eq k (kindOf op) (p .0)) in
       ⊎-elim (λ q. record { other = r; is = e ∙ ap (λ (t : Expr). val (node op t r)) (same-part→eq w l part q) })
-      (λ q. record { other = l; is = e ∙ ap (λ (t : Expr). val (node op l t)) (same-part→eq w r part q) ∙ turned op part l })
+      (λ q. record { other = l; is = e ∙ ap (λ (t : Expr). val (node op l t)) (same-part→eq w r part q) ∙ swap-val op part l })
       (or-yes (samePart w l part) (samePart w r part) (p .1))
 
   -- ---- the arms of the fold, for what stands on the right
@@ -126,27 +126,27 @@ module _ (w : ℕ) (σ : List ℕ) where
       let K = Keeps (binary And l r) in
       if-case K (areComplements w l r) (and-complements l r)
       (if-case K (containsOperand w r Or l) (and-absorbs l r)
-      (if-case K (containsOperand w l Or r) (λ h. and-absorbs r l h ∙ turned and l r)
+      (if-case K (containsOperand w l Or r) (λ h. and-absorbs r l h ∙ swap-val and l r)
       (if-case K ((constantVal w r isSome 0) || (constantVal w l isSome 0))
-      (λ h. ⊎-elim (and-zero l r) (λ p. and-zero r l p ∙ turned and l r) (or-yes (constantVal w r isSome 0) (constantVal w l isSome 0) h))
+      (λ h. ⊎-elim (and-zero l r) (λ p. and-zero r l p ∙ swap-val and l r) (or-yes (constantVal w r isSome 0) (constantVal w l isSome 0) h))
       (if-case K (constantVal w r isSome ones w) (and-ones l r)
-      (if-case K (constantVal w l isSome ones w) (λ h. and-ones r l h ∙ turned and l r)
+      (if-case K (constantVal w l isSome ones w) (λ h. and-ones r l h ∙ swap-val and l r)
       refl)))))
   arms-keep or l r =
       let K = Keeps (binary Or l r) in
       if-case K (areComplements w l r) (or-complements l r)
       (if-case K (containsOperand w r And l) (or-absorbs l r)
-      (if-case K (containsOperand w l And r) (λ h. or-absorbs r l h ∙ turned or l r)
+      (if-case K (containsOperand w l And r) (λ h. or-absorbs r l h ∙ swap-val or l r)
       (if-case K (constantVal w r isSome 0) (or-zero l r)
-      (if-case K (constantVal w l isSome 0) (λ h. or-zero r l h ∙ turned or l r)
+      (if-case K (constantVal w l isSome 0) (λ h. or-zero r l h ∙ swap-val or l r)
       (if-case K ((constantVal w r isSome ones w) || (constantVal w l isSome ones w))
-      (λ h. ⊎-elim (or-ones l r) (λ p. or-ones r l p ∙ turned or l r) (or-yes (constantVal w r isSome ones w) (constantVal w l isSome ones w) h))
+      (λ h. ⊎-elim (or-ones l r) (λ p. or-ones r l p ∙ swap-val or l r) (or-yes (constantVal w r isSome ones w) (constantVal w l isSome ones w) h))
       refl)))))
   arms-keep xor l r =
       let K = Keeps (binary Xor l r) in
       if-case K (areComplements w l r) (xor-complements l r)
       (if-case K (constantVal w r isSome 0) (xor-zero l r)
-      (if-case K (constantVal w l isSome 0) (λ h. xor-zero r l h ∙ turned xor l r)
+      (if-case K (constantVal w l isSome 0) (λ h. xor-zero r l h ∙ swap-val xor l r)
       refl))
 
   -- two constants as one
@@ -162,8 +162,8 @@ module _ (w : ℕ) (σ : List ℕ) where
   keeps-folding op = record {
     arm = arms-keep op;
     right = λ x d c u h. h ∙ joined op x d c;
-    left = λ x d c u h. h ∙ joined op x d c ∙ ap (λ (n : ℕ). binaryValue w (kindOf op) n (c % 2 ^ w)) (turned op (constant d) x);
-    exchanged = λ l r u h. h ∙ turned op l r;
+    left = λ x d c u h. h ∙ joined op x d c ∙ ap (λ (n : ℕ). binaryValue w (kindOf op) n (c % 2 ^ w)) (swap-val op (constant d) x);
+    swapped = λ l r u h. h ∙ swap-val op l r;
     weaker = λ t u h. h;
   }
 
