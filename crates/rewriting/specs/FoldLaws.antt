@@ -60,6 +60,7 @@ module _ (w : ℕ) where
         let n = node op t (constant c) in
         otherwise-case (R n) (reassociateConstant w op t c) (every-on (S n) (R n) (reassociateConstant w op t c) (f .weaker n) h) (f .arm t (constant c))
 
+    -- an equal tree under the outer node
     inside : {s t : Expr} (c : ℕ) {u : Expr} → s ≡ t → S (node op s (constant c)) u → S (node op t (constant c)) u
     inside c {u} e h = subst (λ (s : Expr). S (node op s (constant c)) u) e h
 

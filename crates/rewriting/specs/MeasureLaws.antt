@@ -50,6 +50,7 @@ pub record LowerStep (t u : Expr) : Type 0 where
   pub no-more-and-ors : andOrs u ≤ andOrs t
   pub no-deeper : depth u ≤ depth t
 
+-- both kinds count
 dual-counts : {k j : Binary} → Dual k j → (andOr k ≡ 1) × (andOr j ≡ 1)
 dual-counts and-or = (refl, refl)
 dual-counts or-and = (refl, refl)
@@ -72,7 +73,7 @@ change-step : {t u : Expr} → Change t u → DeMorganStep t u ⊎ LowerStep t u
 change-step (less h) = inr (lower-step h)
 change-step (turned-over h) = inl (de-morgan-step h)
 
--- in either step
+-- of both
 step-nodes : {t u : Expr} → DeMorganStep t u ⊎ LowerStep t u → nodes u ≤ nodes t + 1
 step-nodes (inl h) = omega arith
 step-nodes (inr h) = omega arith
@@ -93,7 +94,8 @@ module _ (w : ℕ) (t u : Expr) (e : localRewrite w t ≡ some u) where
 
 -- ---- the rewrite at the first site
 
--- n + 2 D falls; n + D, the number of And and Or nodes, D and the depth do not rise
+-- nodes and twice D fall, so that rewriting ends; nodes and D, which bound the trees on the way, do not rise, nor do the And and Or nodes,
+-- D and the depth
 pub record Lower (t u : Expr) : Type 0 where
   pub falls : nodes u + 2 * D u < nodes t + 2 * D t
   pub room : nodes u + D u ≤ nodes t + D t

@@ -53,6 +53,7 @@ module _ (w : ℕ) (σ : List ℕ) where
       ⊎-elim (λ p. sym (ap (bvnot w) (ap val (not-of→eq w a b p)) ∙ L.not-not w (lt b))) (λ p. ap val (not-of→eq w b a p))
       (or-yes (isNotOf w a b) (isNotOf w b a) h)
 
+  -- the operands in either order
   swap-val : (op : Bitwise) (l r : Expr) → val (node op r l) ≡ val (node op l r)
   unfolding value
   swap-val and l r = and-comm (val r) (val l)
@@ -149,7 +150,7 @@ module _ (w : ℕ) (σ : List ℕ) where
       (if-case K (constantVal w l isSome 0) (λ h. xor-zero r l h ∙ swap-val xor l r)
       refl))
 
-  -- two constants as one
+  -- two constants as one, which reassociation makes of them
   joined : (op : Bitwise) (x : Expr) (d c : ℕ)
       → val (node op x (constant (foldedWord w op d c))) ≡ val (node op (node op x (constant d)) (constant c))
   unfolding value
