@@ -5,14 +5,18 @@ use Prim.Native.Nat.{ℕ, _+_, _-_, _*_, _/_, _%_, _^_, _≤_, _<_}
 use native.Mathlib.Nat.{add-mod-mod, min-eq-left, mod-eq-of-lt, sub-add-cancel, mul-add-mod-self-right, lt-of-le-of-lt}
 use native.Mathlib.Omega.{arith}
 use lib.Pow.{pow-mono, not-mod, high-ones, shr-le}
-use Rattle.arith.specs.Arith.{modAdd, modSub, modMul, modNeg, modNot, modShr, lowBits}
-use Rattle.arith.specs.Bv.{bvadd, bvmul, bvneg, bvnot, bvlshr}
+use Rattle.arith.specs.Arith.{bitmaskOf, modAdd, modSub, modMul, modNeg, modNot, modShr, lowBits}
+use Rattle.arith.specs.Bv.{ones, bvadd, bvmul, bvneg, bvnot, bvlshr}
 use Rattle.arith.specs.BvLaws.{lshr-is}
 
 module _ (w : ℕ) (l : w ≤ 64) where
   -- a word modulo 2 ^ w
   pub low-is : (n : ℕ) → lowBits n w ≡ n % 2 ^ w
   low-is n = ap (λ (k : ℕ). n % 2 ^ k) (min-eq-left l)
+
+  -- all w bits set
+  pub mask-is : bitmaskOf w ≡ ones w
+  mask-is = ap (λ (k : ℕ). 2 ^ k - 1) (min-eq-left l)
 
   pub add-is : (a b : ℕ) → modAdd a b w ≡ bvadd w a b
   add-is a b = low-is (a + b)

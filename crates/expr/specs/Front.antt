@@ -5,8 +5,9 @@ use mathlib.Core.List.{List, _++_}
 use Prim.Native.Nat.{ℕ}
 use lib.Dec.{T}
 use lib.ListN.{length}
-use Rattle.expr.specs.Expr.{Expr, encode}
-use Rattle.expr.specs.Parse.{operandsOk}
+use Rattle.expr.specs.Outcome.{Outcome, refused, accepted}
+use Rattle.expr.specs.Expr.{Constant, Expr, leaf, unary, binary, encode}
+use Rattle.expr.specs.Parse.{operandsOk, subtree}
 
 -- the words begin with those of the tree, whose operands are in range
 pub record Front (ws : List ℕ) (t : Expr) : Type 0 where
@@ -31,3 +32,35 @@ pub record Read (ws : List ℕ) (n : ℕ) (P : Expr → Type 0) : Type 0 where
 -- f gives y for the tree
 pub record Gives {A : Type 0} (f : Expr → A) (y : A) (t : Expr) : Type 0 where
   pub is : y ≡ f t
+
+-- ---- the tree, by its words
+
+-- the tree that was read; the constant 0 where none was
+abbrev pub orZero : Outcome (Expr × List ℕ) → Expr
+orZero (refused r) = leaf (Constant 0)
+orZero (accepted p) = p .0
+
+-- the tree that the words begin with; the constant 0 where they begin with none
+unfoldable pub treeAt : List ℕ → Expr
+treeAt ws = orZero (subtree (length ws) ws)
+
+-- the words are exactly those of the tree, whose operands are in range
+pub record Exactly (ws : List ℕ) (t : Expr) : Type 0 where
+  pub words : ws ≡ encode t
+  pub operands : T (operandsOk t)
+
+-- the words are exactly those of a tree
+abbrev pub Whole : List ℕ → Type 0
+Whole ws = Exactly ws (treeAt ws)
+
+-- a node's first child; a tree without one stands for it
+abbrev pub leftOf : Expr → Expr
+leftOf (leaf k) = leaf k
+leftOf (unary k t) = t
+leftOf (binary k l r) = l
+
+-- a node's second child; a tree without one stands for it
+abbrev pub rightOf : Expr → Expr
+rightOf (leaf k) = leaf k
+rightOf (unary k t) = unary k t
+rightOf (binary k l r) = r

@@ -16,3 +16,4 @@ pub mod ParseLaws
 pub mod SpanLaws
 pub mod TailLaws
 pub mod FrontLaws
+pub mod PartLaws

@@ -1,4 +1,6 @@
 // The kinds of a node that code compares with, by the number in the kind word.
+pub const CONSTANT: u64 = 0;
+
 pub const VARIABLE: u64 = 1;
 
 pub const ADD: u64 = 2;

@@ -1,0 +1,180 @@
+-- The parts of a node's own words that are its children. Assumes nothing.
+use mathlib.Core.Path.{_≡_, refl, sym, ap, subst, _∙_}
+use mathlib.Core.List.{List, [], _∷_, _++_, append-nil}
+use Prim.Native.Nat.{ℕ, _+_, _*_, _-_, _≤_, _<_}
+use native.Mathlib.Omega.{arith}
+use lib.Dec.{T}
+use lib.ListN.{length, take, drop, getD, length-append}
+use lib.Seq.{take-at, drop-at}
+use mir.Facts.{and-yes}
+use Rattle.expr.specs.Outcome.{Outcome, accepted}
+use Rattle.expr.specs.Expr.{Leaf, Unary, Binary, Expr, leaf, unary, binary, leafNumber, leafOperand, unaryNumber, unaryOperand, binaryNumber, encode, nodes, depth}
+use Rattle.expr.specs.ExprLaws.{nodes-pos, depth-nodes, length-encode}
+use Rattle.expr.specs.Parse.{Kind, none, one, two, arity, arityOf, operandOk, operandsOk, subtree}
+use Rattle.expr.specs.ParseLaws.{subtree-encode}
+use Rattle.expr.specs.KindLaws.{number, operand, number-arity}
+use Rattle.expr.specs.Front.{Front, orZero, treeAt, Exactly, Whole, leftOf, rightOf}
+use Rattle.expr.specs.TailLaws.{tail, tail-drop, length-tail}
+
+-- the part `&ws[a..e]`, as a call is handed it
+abbrev pub part : ℕ → ℕ → List ℕ → List ℕ
+part a e ws = take (e - a) (drop a ws)
+
+-- ---- the tree is known by its words
+
+module _ (ws : List ℕ) (t : Expr) where
+  pub front-tree : Front ws t → treeAt ws ≡ t
+  unfolding treeAt
+  front-tree f =
+      let deep : depth t ≤ length ws = omega (arith, depth-nodes t, length-encode t, ap length (f .words), length-append (encode t) (f .rest)) in
+      ap (λ (l : List ℕ). orZero (subtree (length ws) l)) (f .words) ∙ ap orZero (subtree-encode t (length ws) (f .rest) deep (f .operands))
+
+  pub exact-front : Exactly ws t → Front ws t
+  exact-front x = record { rest = []; words = x .words ∙ sym (append-nil (encode t)); operands = x .operands }
+
+  pub exact-tree : Exactly ws t → treeAt ws ≡ t
+  exact-tree x = front-tree (exact-front x)
+
+  pub exact-whole : Exactly ws t → Whole ws
+  exact-whole x = subst (Exactly ws) (sym (exact-tree x)) x
+
+  pub exact-length : Exactly ws t → length ws ≡ 2 * nodes t
+  exact-length x = ap length (x .words) ∙ length-encode t
+
+  pub exact-kind : Exactly ws t → 0 < length ws
+  exact-kind x = omega (arith, exact-length x, nodes-pos t)
+
+  pub exact-operand : Exactly ws t → 1 < length ws
+  exact-operand x = omega (arith, exact-length x, nodes-pos t)
+
+  pub exact-node : Exactly ws t → 2 ≤ length ws
+  exact-node x = omega (arith, exact-length x, nodes-pos t)
+
+-- ---- a node, as its arity tells
+
+-- a leaf: its two words
+pub record NoChild (ws : List ℕ) (t : Expr) : Type 0 where
+  pub kind : Leaf
+  pub is : t ≡ leaf kind
+  pub number-is : getD ws 0 0 ≡ leafNumber kind
+  pub operand-is : getD ws 1 0 ≡ leafOperand kind
+
+-- a node over one child: its two words, and the child's after them
+pub record OneChild (ws : List ℕ) (t : Expr) : Type 0 where
+  pub kind : Unary
+  pub is : t ≡ unary kind (leftOf t)
+  pub number-is : getD ws 0 0 ≡ unaryNumber kind
+  pub operand-is : getD ws 1 0 ≡ unaryOperand kind
+  pub below : Exactly (tail 2 ws) (leftOf t)
+
+-- a node over two children: the right one's words begin where the left one's end
+pub record TwoChildren (ws : List ℕ) (t : Expr) : Type 0 where
+  pub kind : Binary
+  pub is : t ≡ binary kind (leftOf t) (rightOf t)
+  pub number-is : getD ws 0 0 ≡ binaryNumber kind
+  pub children : tail 2 ws ≡ encode (leftOf t) ++ encode (rightOf t)
+  pub left-below : Exactly (part 2 (2 + length (encode (leftOf t))) ws) (leftOf t)
+  pub right-below : Exactly (tail (2 + length (encode (leftOf t))) ws) (rightOf t)
+
+module _ (ws : List ℕ) where
+  -- a tree's first word asks for as many children as the tree has
+  arity-told : (κ : Kind) (vs : List ℕ) (n : ℕ) → ws ≡ number κ ∷ operand κ ∷ vs → arityOf (getD ws 0 0) ≡ accepted n → n ≡ arity κ
+  arity-told κ vs n e a = let f = ap (λ (l : List ℕ). arityOf (getD l 0 0)) e in let g = number-arity κ in cc
+
+  pub no-child : (t : Expr) → Exactly ws t → arityOf (getD ws 0 0) ≡ accepted 0 → NoChild ws t
+  unfolding encode
+  no-child (leaf k) x a = record {
+    kind = k;
+    is = refl;
+    number-is = ap (λ (l : List ℕ). getD l 0 0) (x .words);
+    operand-is = ap (λ (l : List ℕ). getD l 1 0) (x .words);
+  }
+  no-child (unary k t) x a = absurd (omega (arith, arity-told (one k) (encode t) 0 (x .words) a))
+  no-child (binary k l r) x a = absurd (omega (arith, arity-told (two k) (encode l ++ encode r) 0 (x .words) a))
+
+  pub one-child : (t : Expr) → Exactly ws t → arityOf (getD ws 0 0) ≡ accepted 1 → OneChild ws t
+  unfolding encode operandsOk
+  one-child (leaf k) x a = absurd (omega (arith, arity-told (none k) [] 1 (x .words) a))
+  one-child (unary k t) x a = record {
+    kind = k;
+    is = refl;
+    number-is = ap (λ (l : List ℕ). getD l 0 0) (x .words);
+    operand-is = ap (λ (l : List ℕ). getD l 1 0) (x .words);
+    below = record {
+      words = tail-drop 2 ws ∙ ap (λ (l : List ℕ). drop {A = ℕ} 2 l) (x .words);
+      operands = and-yes (operandOk (unaryNumber k) (unaryOperand k)) (operandsOk t) (x .operands) .1;
+    };
+  }
+  one-child (binary k l r) x a = absurd (omega (arith, arity-told (two k) (encode l ++ encode r) 1 (x .words) a))
+
+  pub two-children : (t : Expr) → Exactly ws t → arityOf (getD ws 0 0) ≡ accepted 2 → TwoChildren ws t
+  unfolding encode operandsOk
+  two-children (leaf k) x a = absurd (omega (arith, arity-told (none k) [] 2 (x .words) a))
+  two-children (unary k t) x a = absurd (omega (arith, arity-told (one k) (encode t) 2 (x .words) a))
+  two-children (binary k l r) x a =
+      let o = and-yes (operandsOk l) (operandsOk r) (x .operands) in
+      let n : length (encode l) ≡ 2 + length (encode l) - 2 = omega arith in
+      record {
+        kind = k;
+        is = refl;
+        number-is = ap (λ (l : List ℕ). getD l 0 0) (x .words);
+        children = tail-drop 2 ws ∙ ap (λ (v : List ℕ). drop {A = ℕ} 2 v) (x .words);
+        left-below = record {
+          words = ap (λ (v : List ℕ). take (2 + length (encode l) - 2) (drop 2 v)) (x .words) ∙ take-at (encode l) (encode r) (2 + length (encode l) - 2) n;
+          operands = o .0;
+        };
+        right-below = record {
+          words =
+              tail-drop (2 + length (encode l)) ws
+              ∙ ap (drop (2 + length (encode l))) (x .words)
+              ∙ drop-at (binaryNumber k ∷ 0 ∷ encode l) (encode r) (2 + length (encode l)) (omega arith);
+          operands = o .1;
+        };
+      }
+
+-- ---- the children's parts, as calls are handed them
+
+module _ (ws : List ℕ) (t : Expr) (x : Exactly ws t) where
+  module _ (a : arityOf (getD ws 0 0) ≡ accepted 1) where
+    pub child-whole : Whole (tail 2 ws)
+    child-whole = exact-whole (tail 2 ws) (leftOf t) (one-child ws t x a .below)
+
+    pub child-tree : treeAt (tail 2 ws) ≡ leftOf t
+    child-tree = exact-tree (tail 2 ws) (leftOf t) (one-child ws t x a .below)
+
+  module _ (a : arityOf (getD ws 0 0) ≡ accepted 2) (right : ℕ) (e : right ≡ 2 + length (encode (leftOf t))) where
+    pub left-exact : Exactly (part 2 right ws) (leftOf t)
+    left-exact = subst (λ (i : ℕ). Exactly (part 2 i ws) (leftOf t)) (sym e) (two-children ws t x a .left-below)
+
+    pub right-exact : Exactly (tail right ws) (rightOf t)
+    right-exact = subst (λ (i : ℕ). Exactly (tail i ws) (rightOf t)) (sym e) (two-children ws t x a .right-below)
+
+    pub left-whole : Whole (part 2 right ws)
+    left-whole = exact-whole (part 2 right ws) (leftOf t) left-exact
+
+    pub left-tree : treeAt (part 2 right ws) ≡ leftOf t
+    left-tree = exact-tree (part 2 right ws) (leftOf t) left-exact
+
+    pub right-whole : Whole (tail right ws)
+    right-whole = exact-whole (tail right ws) (rightOf t) right-exact
+
+    pub right-tree : treeAt (tail right ws) ≡ rightOf t
+    right-tree = exact-tree (tail right ws) (rightOf t) right-exact
+
+    pub right-within : right < length ws
+    unfolding encode
+    right-within =
+        let n = two-children ws t x a in
+        omega (arith, ap length (x .words), ap (λ (u : Expr). length (encode u)) (n .is), length-append (encode (leftOf t)) (encode (rightOf t)), length-encode (rightOf t), nodes-pos (rightOf t))
+
+    pub right-most : right ≤ length ws
+    right-most = omega (arith, right-within)
+
+    -- each part has fewer words than the node
+    pub left-shorter : (m : ℕ) → length ws ≡ m → length (part 2 right ws) < m
+    left-shorter m f = omega (arith, right-within, ap length (left-exact .words))
+
+    pub right-shorter : (m : ℕ) → length ws ≡ m → length (tail right ws) < m
+    right-shorter m f = omega (arith, right-within, length-tail right ws)
+
+pub ruleset parts = (left-shorter, right-shorter, exact-kind, exact-operand, exact-node, exact-whole, child-whole, left-whole, right-whole, right-within, right-most)
