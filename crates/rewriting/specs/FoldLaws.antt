@@ -79,18 +79,19 @@ module _ (w : ℕ) where
         inside c (ap₂ (λ (j : Binary) (s : Expr). binary j s r) same (sym (constant-val→eq w l d e))) (f .left r d c _ (again r n (reassociated r n))))))
         tt
 
-    pub at-fold : (l r : Expr) → R (node op l r) (tryFoldBinary w op l r)
-    unfolding tryFoldBinary
-    at-fold l r =
+    pub at-reassociation : (l r : Expr) → Every (S (node op l r)) (constantVal w r andThen reassociateConstant w op l orElse constantVal w l andThen reassociateConstant w op r)
+    at-reassociation l r =
         let n = node op l r in
-        let first = constantVal w r andThen reassociateConstant w op l in
-        let second = constantVal w l andThen reassociateConstant w op r in
-        otherwise-case (R n) (first orElse second)
-        (every-on (S n) (R n) (first orElse second) (f .weaker n)
-        (every-orElse (S n) first second
+        every-orElse (S n) (constantVal w r andThen reassociateConstant w op l) (constantVal w l andThen reassociateConstant w op r)
         (every-andThen (S n) (constantVal w r) (reassociateConstant w op l) (λ c e.
         subst (λ (t : Expr). Every (S (node op l t)) (reassociateConstant w op l c)) (sym (constant-val→eq w r c e)) (reassociated l c)))
         (every-andThen (S n) (constantVal w l) (reassociateConstant w op r) (λ c e.
         every-on (S (node op r l)) (S n) (reassociateConstant w op r c) (f .swapped l r)
-        (subst (λ (t : Expr). Every (S (node op r t)) (reassociateConstant w op r c)) (sym (constant-val→eq w l c e)) (reassociated r c))))))
-        (f .arm l r)
+        (subst (λ (t : Expr). Every (S (node op r t)) (reassociateConstant w op r c)) (sym (constant-val→eq w l c e)) (reassociated r c))))
+
+    pub at-fold : (l r : Expr) → R (node op l r) (tryFoldBinary w op l r)
+    unfolding tryFoldBinary
+    at-fold l r =
+        let n = node op l r in
+        let found = constantVal w r andThen reassociateConstant w op l orElse constantVal w l andThen reassociateConstant w op r in
+        otherwise-case (R n) found (every-on (S n) (R n) found (f .weaker n) (at-reassociation l r)) (f .arm l r)

@@ -1,20 +1,21 @@
 -- What the local rewrite does to the shape of a tree: it cuts the tree down, or it is a step of De Morgan's laws. Assumes nothing.
 use mathlib.Core.Path.{_≡_, refl, sym, subst, ap}
 use mathlib.Core.Logic.{_⊎_, inl, inr}
-use mathlib.Core.Bool.{_&&_, _||_}
+use mathlib.Core.Bool.{Bool, true, false, _&&_, _||_}
 use mathlib.Core.Option.{none, some}
 use Prim.Native.Nat.{ℕ, _+_, _≤_, _<_}
 use native.Mathlib.Omega.{arith}
 use lib.Dec.{T, eqb}
 use Rattle.arith.specs.Bv.{ones}
+use Rattle.arith.specs.Choice.{if_then_else_}
 use Rattle.arith.specs.ChoiceLaws.{if-yes}
 use Rattle.expr.specs.Expr.{Unary, Not, Neg, Shr, ZExt, SExt, Trunc, Binary, Add, Mul, And, Or, Xor, Concat, Expr, leaf, unary, binary, nodes}
 use Rattle.expr.specs.ExprLaws.{nodes-pos}
-use Rattle.rewriting.specs.Optional.{_isSome_}
+use Rattle.rewriting.specs.Optional.{_andThen_, _orElse_, _isSome_}
 use Rattle.rewriting.specs.OptionalLaws.{Every, if-case, every-onlyIf, every-at}
-use Rattle.rewriting.specs.AtomSimplifier.{constant, not, isNotKind, isNot, constantVal, samePart, areComplements, containsOperand, Bitwise, and, or, xor, constantArms, arms, tryFoldBinary, deMorgan, notRewrite, unaryRewrite, foldRewrite, binaryRewrite, localRewrite}
-use Rattle.rewriting.specs.TestLaws.{eq→same-part}
-use Rattle.rewriting.specs.FoldLaws.{node, Folding, at-fold}
+use Rattle.rewriting.specs.AtomSimplifier.{constant, not, isNotKind, isNot, constantVal, samePart, areComplements, containsOperand, Bitwise, and, or, xor, constantArms, arms, reassociateConstant, tryFoldBinary, deMorgan, notRewrite, unaryRewrite, foldRewrite, binaryRewrite, localRewrite}
+use Rattle.rewriting.specs.TestLaws.{same-part→eq, eq→same-part}
+use Rattle.rewriting.specs.FoldLaws.{node, Folding, at-reassociation, at-fold}
 
 infix 4 _⊑_
 -- the left tree is the right one cut down: a part of it, a constant in its place, its operands swapped, any of these again and again
@@ -70,15 +71,15 @@ module _ (f : Expr → ℕ) (a : Adds f) where
 -- ---- a node and less than it
 
 module _ (k : Binary) (l r : Expr) where
-  less-constant : (c : ℕ) → Less (binary k l r) (constant c)
+  pub less-constant : (c : ℕ) → Less (binary k l r) (constant c)
   unfolding nodes
   less-constant c = record { cut = to-constant; fewer = omega (arith, nodes-pos l, nodes-pos r) }
 
-  less-left : Less (binary k l r) l
+  pub less-left : Less (binary k l r) l
   unfolding nodes
   less-left = record { cut = left; fewer = omega arith }
 
-  less-right : Less (binary k l r) r
+  pub less-right : Less (binary k l r) r
   unfolding nodes
   less-right = record { cut = right; fewer = omega arith }
 
@@ -159,6 +160,24 @@ module _ (w : ℕ) where
     weaker = λ t u h. inr h;
   }
 
+  -- reassociation makes a node less, so that its answer is never the node itself
+  pub reassociated-less : (op : Bitwise) (l r u : Expr) → (constantVal w r andThen reassociateConstant w op l orElse constantVal w l andThen reassociateConstant w op r) ≡ some u → Less (node op l r) u
+  reassociated-less op l r u e = every-at (Less (node op l r)) (constantVal w r andThen reassociateConstant w op l orElse constantVal w l andThen reassociateConstant w op r) (at-reassociation w op (folds-folding op) l r) e
+
+  -- the fold rewrites where it gives less, and does not where it gives the node
+  module _ (op : Bitwise) (l r : Expr) where
+    pub fold-fires : (u : Expr) → tryFoldBinary w op l r ≡ u → Less (node op l r) u → foldRewrite w op l r ≡ some u
+    unfolding foldRewrite
+    fold-fires u e h = subst (λ (s : Expr). (if samePart w s (node op l r) then none else some s) ≡ some u) (sym e) (go (samePart w u (node op l r)) refl)
+      where
+        go : (b : Bool) → samePart w u (node op l r) ≡ b → (if b then none else some u) ≡ some u
+        go true f = absurd (omega (arith, h .fewer, ap nodes (same-part→eq w u (node op l r) (subst T (sym f) tt))))
+        go false f = refl
+
+    pub fold-stays : tryFoldBinary w op l r ≡ node op l r → foldRewrite w op l r ≡ none
+    unfolding foldRewrite
+    fold-stays e = if-yes (samePart w (tryFoldBinary w op l r) (node op l r)) _ _ (eq→same-part w (tryFoldBinary w op l r) (node op l r) e)
+
   fold-change : (op : Bitwise) (l r : Expr) → Every (Change (node op l r)) (foldRewrite w op l r)
   unfolding foldRewrite
   fold-change op l r = go (at-fold w op (folds-folding op) l r)
@@ -170,8 +189,8 @@ module _ (w : ℕ) where
       folded = tryFoldBinary w op l r
 
       go : Folds (node op l r) folded → Every C (foldRewrite w op l r)
-      go (inl e) = subst (Every C) (sym (if-yes (samePart w folded (node op l r)) none (some folded) (eq→same-part w folded (node op l r) e))) tt
-      go (inr h) = if-case (Every C) (samePart w folded (node op l r)) (λ p. tt) (less h)
+      go (inl e) = subst (Every C) (sym (fold-stays op l r e)) tt
+      go (inr h) = subst (Every C) (sym (fold-fires op l r folded refl h)) (less h)
 
   -- ---- the local rewrite of a node with two
 

@@ -1,0 +1,6 @@
+pub mod OperandLaws
+pub mod ArmLaws
+pub mod DecideLaws
+pub mod ReassociateLaws
+pub mod NodeFoldLaws
+pub mod LocalLaws

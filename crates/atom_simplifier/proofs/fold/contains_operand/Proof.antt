@@ -1,0 +1,26 @@
+-- `contains_operand` meets its contract. Assumes nothing.
+use borrow.Author.Needs.{needs}
+use Rattle.atom_simplifier.proofs.OperandLaws.{operand}
+use Rattle.atom_simplifier.proofs.fold.contains_operand.Statement.{statement}
+use Rattle.atom_simplifier.proofs.fold.contains_operand.Tie as tie
+
+ruleset rules = (needs, operand)
+
+pub contains-operand-spec : {M : Type 1} → statement M
+contains-operand-spec =
+    tie.close
+    (tie.spec
+    (λ c. search rules)
+    (λ c. search rules)
+    (λ c κs. search rules)
+    (λ c. search rules)
+    (λ c. search rules)
+    (λ c. search rules)
+    (λ c κs. search rules)
+    (λ c. search rules)
+    (λ c. search rules)
+    (λ c. search rules)
+    (λ c. search rules)
+    (λ c. search rules)
+    (λ c κs. search rules)
+    (λ c. search rules))

@@ -1,0 +1,16 @@
+-- `either_constant` meets its contract. Assumes nothing.
+use borrow.Author.Needs.{needs}
+use Rattle.atom_simplifier.proofs.OperandLaws.{operand}
+use Rattle.atom_simplifier.proofs.fold.either_constant.Statement.{statement}
+use Rattle.atom_simplifier.proofs.fold.either_constant.Tie as tie
+
+ruleset rules = (needs, operand)
+
+pub either-constant-spec : {M : Type 1} → statement M
+either-constant-spec =
+    tie.close
+    (tie.spec
+    (λ c κs. search rules)
+    (λ c. search rules)
+    (λ c κs. search rules)
+    (λ c. search rules))

@@ -1,0 +1,18 @@
+-- `folded_word` meets its contract. Assumes nothing.
+use borrow.Author.Needs.{needs}
+use Rattle.atom_simplifier.proofs.ArmLaws.{arm}
+use Rattle.atom_simplifier.proofs.fold.folded_word.Statement.{statement}
+use Rattle.atom_simplifier.proofs.fold.folded_word.Tie as tie
+
+ruleset rules = (needs, arm)
+
+pub folded-word-spec : {M : Type 1} → statement M
+folded-word-spec =
+    tie.close
+    (tie.spec
+    (λ c κs. search rules)
+    (λ c κs. search rules)
+    (λ c κs. search rules)
+    (λ c. search rules)
+    (λ c. search rules)
+    (λ c. search rules))

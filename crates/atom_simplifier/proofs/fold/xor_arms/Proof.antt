@@ -1,0 +1,17 @@
+-- `xor_arms` meets its contract. Assumes nothing.
+use borrow.Author.Needs.{needs}
+use Rattle.atom_simplifier.proofs.ArmLaws.{arm}
+use Rattle.atom_simplifier.proofs.fold.xor_arms.Statement.{statement}
+use Rattle.atom_simplifier.proofs.fold.xor_arms.Tie as tie
+
+ruleset rules = (needs, arm)
+
+pub xor-arms-spec : {M : Type 1} → statement M
+xor-arms-spec =
+    tie.close
+    (tie.spec
+    (λ c κs. search rules)
+    (λ c κs. search rules)
+    (λ c. search rules)
+    (λ c κs. search rules)
+    (λ c. search rules))

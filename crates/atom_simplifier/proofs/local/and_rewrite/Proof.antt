@@ -1,0 +1,29 @@
+-- `and_rewrite` meets its contract. Assumes nothing.
+use borrow.Author.Needs.{needs}
+use Rattle.atom_simplifier.proofs.LocalLaws.{localRule}
+use Rattle.atom_simplifier.proofs.local.and_rewrite.Statement.{statement}
+use Rattle.atom_simplifier.proofs.local.and_rewrite.Tie as tie
+
+ruleset rules = (needs, localRule)
+
+pub and-rewrite-spec : {M : Type 1} → statement M
+and-rewrite-spec =
+    tie.close
+    (tie.spec
+    (λ c. search rules)
+    (λ c. search rules)
+    (λ c. search rules)
+    (λ c. search rules)
+    (λ c. search rules)
+    (λ c. search rules)
+    (λ c. search rules)
+    (λ c κs. search rules)
+    (λ c. search rules)
+    (λ c. search rules)
+    (λ c κs. search rules)
+    (λ c κs. search rules)
+    (λ c. search rules)
+    (λ c κs. search rules)
+    (λ c κs. search rules)
+    (λ c. search rules)
+    (λ c. search rules))

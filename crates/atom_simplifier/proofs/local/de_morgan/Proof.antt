@@ -1,0 +1,23 @@
+-- `de_morgan` meets its contract. Assumes nothing.
+use borrow.Author.Needs.{needs}
+use Rattle.atom_simplifier.proofs.LocalLaws.{localRule}
+use Rattle.atom_simplifier.proofs.local.de_morgan.Statement.{statement}
+use Rattle.atom_simplifier.proofs.local.de_morgan.Tie as tie
+
+ruleset rules = (needs, localRule)
+
+pub de-morgan-spec : {M : Type 1} → statement M
+de-morgan-spec =
+    tie.close
+    (tie.spec
+    (λ c. search rules)
+    (λ c. search rules)
+    (λ c. search rules)
+    (λ c κs. search rules)
+    (λ c. search rules)
+    (λ c. search rules)
+    (λ c. search rules)
+    (λ c. search rules)
+    (λ c. search rules)
+    (λ c. search rules)
+    (λ c. search rules))

@@ -1,0 +1,25 @@
+-- `root_rewrite` meets its contract. Assumes nothing.
+use borrow.Author.Needs.{needs}
+use Rattle.atom_simplifier.proofs.LocalLaws.{localRule}
+use Rattle.atom_simplifier.proofs.local.root_rewrite.Statement.{statement}
+use Rattle.atom_simplifier.proofs.local.root_rewrite.Tie as tie
+
+ruleset rules = (needs, localRule)
+
+pub root-rewrite-spec : {M : Type 1} → statement M
+root-rewrite-spec =
+    tie.close
+    (tie.spec
+    (λ c. search rules)
+    (λ c κs. search rules)
+    (λ c. search rules)
+    (λ c. search rules)
+    (λ c κs. search rules)
+    (λ c. search rules)
+    (λ c κs. search rules)
+    (λ c κs. search rules)
+    (λ c. search rules)
+    (λ c. search rules)
+    (λ c. search rules)
+    (λ c. search rules)
+    (λ c. search rules))

@@ -1,0 +1,100 @@
+-- What this crate's private functions promise one another; no public promise rests on it. Definitions only.
+use mathlib.Core.Path.{_≡_}
+use mathlib.Core.Bool.{Bool, _||_}
+use mathlib.Core.List.{List, [], _∷_, _++_}
+use mathlib.Core.Option.{Option, none, some}
+use Prim.Native.Nat.{ℕ, _+_}
+use lib.Dec.{eqb}
+use lib.ListN.{length, drop, getD}
+use Rattle.arith.specs.Choice.{if_then_else_}
+use Rattle.expr.specs.Expr.{Binary, Add, Mul, And, Or, Xor, Concat, Expr, binary, binaryNumber, encode}
+use Rattle.rewriting.specs.Optional.{_isSome_}
+use Rattle.rewriting.specs.AtomSimplifier.{constant, not, constantVal, samePart, Bitwise, and, or, xor, kindOf, arms}
+use Rattle.atom_simplifier.specs.declared.fold.ConstantVal.{ConstantVal}
+use Rattle.atom_simplifier.specs.declared.fold.ConstantVal.the-variants as val
+use Rattle.atom_simplifier.specs.declared.fold.Arm.{Arm}
+use Rattle.atom_simplifier.specs.declared.fold.Arm.the-variants as arm
+use Rattle.atom_simplifier.specs.declared.local.Local.{Local}
+use Rattle.atom_simplifier.specs.declared.local.Local.the-variants.{Nothing, Part, Constant, Join, DeMorgan}
+
+-- a constant's word, or none
+abbrev pub constantOption : ConstantVal → Option ℕ
+constantOption (val.Word c) = some c
+constantOption val.None = none
+
+-- at width w the tree is the Constant c
+unfoldable pub isConstant : ℕ → Expr → ℕ → Bool
+isConstant w t c = constantVal w t isSome c
+
+-- one of the two trees is
+unfoldable pub eitherConstant : ℕ → Expr → Expr → ℕ → Bool
+eitherConstant w t u c = (constantVal w t isSome c) || (constantVal w u isSome c)
+
+-- the folded kind of a number: And is 4, Or is 5, and the third is Xor
+abbrev pub bitwiseOf : ℕ → Bitwise
+bitwiseOf k = if eqb k 4 then and else if eqb k 5 then or else xor
+
+-- the number is that of a folded kind
+abbrev pub IsBitwise : ℕ → Type 0
+IsBitwise k = k ≡ binaryNumber (kindOf (bitwiseOf k))
+
+-- what an arm makes of the operands t and u
+abbrev pub armTree : Bitwise → Expr → Expr → Arm → Expr
+armTree op t u arm.Left = t
+armTree op t u arm.Right = u
+armTree op t u (arm.Constant c) = constant c
+armTree op t u arm.Node = binary (kindOf op) t u
+
+-- what the arms make of the operands, where it is not the node itself
+unfoldable pub armRewrite : ℕ → Bitwise → Expr → Expr → Option Expr
+armRewrite w op t u = if samePart w (arms w op t u) (binary (kindOf op) t u) then none else some (arms w op t u)
+
+-- the part stands in the words, from place `at` on
+pub record Within (ws : List ℕ) (at : ℕ) (part : List ℕ) : Type 0 where
+  pub front : List ℕ
+  pub back : List ℕ
+  pub words : ws ≡ front ++ (part ++ back)
+  pub place : at ≡ length front
+
+-- the words of the tree stand in the words at that place and of that length
+pub record Holds (ws : List ℕ) (at len : ℕ) (t : Expr) : Type 0 where
+  pub within : Within ws at (encode t)
+  pub words : len ≡ length (encode t)
+
+-- And and Or, each the other one
+abbrev pub dual : Binary → Binary
+dual Add = Add
+dual Mul = Mul
+dual And = Or
+dual Or = And
+dual Xor = Xor
+dual Concat = Concat
+
+-- the words are those of Not over an And or Or of a and b, and b stands at `right`
+pub record Turns (ws : List ℕ) (right : ℕ) (u : Expr) : Type 0 where
+  pub kind : Binary
+  pub left-operand : Expr
+  pub right-operand : Expr
+  pub was : ws ≡ encode (not (binary kind left-operand right-operand))
+  pub is : u ≡ binary (dual kind) (not left-operand) (not right-operand)
+  pub place : right ≡ 4 + length (encode left-operand)
+
+-- the tree that a decision about the node of these words makes
+unfoldable pub Makes : List ℕ → Local → Expr → Type 0
+Makes ws Nothing u = ⊥
+Makes ws (Part at len) u = Holds ws at len u
+Makes ws (Constant c) u = u ≡ constant c
+Makes ws (Join at len c) u = (k : Binary) × (x : Expr) × (getD ws 0 0 ≡ binaryNumber k) × (u ≡ binary k x (constant c)) × Holds ws at len x
+Makes ws (DeMorgan right) u = Turns ws right u
+
+-- what the definition gives for the node is what the decision makes, and Nothing where it gives none
+unfoldable pub Meaning : List ℕ → Local → Option Expr → Type 0
+Meaning ws d none = d ≡ Nothing
+Meaning ws d (some u) = Makes ws d u
+
+pub record Decides (ws : List ℕ) (d : Local) (o : Option Expr) : Type 0 where
+  pub is : Meaning ws d o
+
+-- the same, in every node of the kind number k that has the part at place `from`
+pub record DecidesAt (k from : ℕ) (part : List ℕ) (d : Local) (o : Option Expr) : Type 0 where
+  pub in-node : (ws : List ℕ) → Within ws from part → getD ws 0 0 ≡ k → Decides ws d o
