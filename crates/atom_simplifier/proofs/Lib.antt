@@ -4,3 +4,5 @@ pub mod DecideLaws
 pub mod ReassociateLaws
 pub mod NodeFoldLaws
 pub mod LocalLaws
+pub mod WriteLaws
+pub mod ReplacementLaws

@@ -32,7 +32,7 @@ use Rattle.rewriting.specs.AtomSimplifier as def
 use Rattle.rewriting.specs.AtomSimplifier.{constant, isNotKind, isNot, constantVal, samePart, Bitwise, and, or, xor, kindOf, foldRewrite, deMorgan, notRewrite, unaryRewrite, binaryRewrite, localRewrite}
 use Rattle.atom_simplifier.specs.declared.local.Local.{Local}
 use Rattle.atom_simplifier.specs.declared.local.Local.the-variants as local
-use Rattle.atom_simplifier.specs.Contracts.{isConstant, bitwiseOf, IsBitwise, Within, Holds, dual, Turns, Makes, Decides}
+use Rattle.atom_simplifier.specs.Contracts.{isConstant, bitwiseOf, IsBitwise, Within, Holds, dualNumber, Turns, Makes, Decides}
 use Rattle.atom_simplifier.proofs.DecideLaws.{decides-none, decides-some, part-holds, all-within, left-holds, part-within}
 use Rattle.atom_simplifier.proofs.OperandLaws.{number-not, number-bitwise, bitwise-arity, is-not-kind}
 
@@ -171,19 +171,16 @@ no-not-rule (binary Or a b) e f g = absurd (g refl)
 no-not-rule (binary Xor a b) e f g = if-none (isNot a || isNot b)
 no-not-rule (binary Concat a b) e f g = if-none (isNot a || isNot b)
 
--- And or Or, by its number
-data Joins : Binary → Type 0 where
-  is-and : Joins And
-  is-or : Joins Or
+-- And or Or, by its number, and what De Morgan makes of it
+record Over (k : Binary) : Type 0 where
+  other : Binary
+  number : dualNumber (binaryNumber k) ≡ binaryNumber other
+  turned : (a b : Expr) → deMorgan k a b ≡ some (binary other (def.not a) (def.not b))
 
-joins : (op : Bitwise) → binaryNumber (kindOf op) ≤ 5 → Joins (kindOf op)
-joins and m = is-and
-joins or m = is-or
-joins xor m = absurd (omega arith)
-
-turned : {k : Binary} → Joins k → (a b : Expr) → deMorgan k a b ≡ some (binary (dual k) (def.not a) (def.not b))
-turned is-and a b = refl
-turned is-or a b = refl
+over-kind : (op : Bitwise) → binaryNumber (kindOf op) ≤ 5 → Over (kindOf op)
+over-kind and m = record { other = Or; number = refl; turned = λ a b. refl }
+over-kind or m = record { other = And; number = refl; turned = λ a b. refl }
+over-kind xor m = absurd (omega arith)
 
 not-operand : (k : Unary) → unaryNumber k ≡ 7 → unaryOperand k ≡ 0
 not-operand Not e = refl
@@ -248,8 +245,8 @@ module _ (node : List ℕ) (t : Expr) (x : Exactly node t) (e : getD node 0 0 �
     k-is : c .kind ≡ kindOf (bitwiseOf (getD node 2 0))
     k-is = same-binary (c .kind) (kindOf (bitwiseOf (getD node 2 0))) (sym (c .number-is) ∙ tail-word ∙ f)
 
-    joined : Joins (c .kind)
-    joined = subst Joins (sym k-is) (joins (bitwiseOf (getD node 2 0)) (omega (arith, f)))
+    o : Over (c .kind)
+    o = subst Over (sym k-is) (over-kind (bitwiseOf (getD node 2 0)) (omega (arith, f)))
 
     abbrev a : Expr
     a = leftOf (leftOf t)
@@ -257,9 +254,9 @@ module _ (node : List ℕ) (t : Expr) (x : Exactly node t) (e : getD node 0 0 �
     abbrev b : Expr
     b = rightOf (leftOf t)
 
-    over : notRewrite (leftOf t) ≡ (if isNot a || isNot b then some (binary (dual (c .kind)) (def.not a) (def.not b)) else none)
+    over : notRewrite (leftOf t) ≡ (if isNot a || isNot b then some (binary (o .other) (def.not a) (def.not b)) else none)
     unfolding notRewrite
-    over = ap notRewrite (c .is) ∙ ap (λ (o : Option Expr). if isNot (leftOf (leftOf t)) || isNot (rightOf (leftOf t)) then o else none) (turned joined (leftOf (leftOf t)) (rightOf (leftOf t)))
+    over = ap notRewrite (c .is) ∙ ap (λ (p : Option Expr). if isNot (leftOf (leftOf t)) || isNot (rightOf (leftOf t)) then p else none) (o .turned (leftOf (leftOf t)) (rightOf (leftOf t)))
 
     words : node ≡ getD node 0 0 ∷ getD node 1 0 ∷ binaryNumber (c .kind) ∷ 0 ∷ (encode a ++ encode b)
     unfolding encode
@@ -292,11 +289,11 @@ module _ (node : List ℕ) (t : Expr) (x : Exactly node t) (e : getD node 0 0 �
           ∙ ap (λ (i : ℕ). eqb i 7)
           (sym (ap (λ (i : ℕ). getD node i 0) q ∙ ap (λ (l : List ℕ). getD l (length f + 0) 0) words ∙ getD-append-add f (encode b) 0 0))
 
-      turns : Decides node (local.DeMorgan (2 + r)) (some (binary (dual (c .kind)) (def.not a) (def.not b)))
+      turns : Decides node (local.DeMorgan (2 + r)) (some (binary (o .other) (def.not a) (def.not b)))
       unfolding Makes encode
       turns =
-          decides-some node (local.DeMorgan (2 + r)) _ (binary (dual (c .kind)) (def.not a) (def.not b)) refl
-          (record { kind = c .kind; left-operand = a; right-operand = b; was = words ∙ ap₂ (λ (i j : ℕ). i ∷ j ∷ binaryNumber (c .kind) ∷ 0 ∷ (encode a ++ encode b)) e none-held; is = refl; place = place })
+          decides-some node (local.DeMorgan (2 + r)) _ (binary (o .other) (def.not a) (def.not b)) refl
+          (record { kind = c .kind; other = o .other; left-operand = a; right-operand = b; was = words ∙ ap₂ (λ (i j : ℕ). i ∷ j ∷ binaryNumber (c .kind) ∷ 0 ∷ (encode a ++ encode b)) e none-held; is = refl; number = o .number; place = place })
         where
           none-held : getD node 1 0 ≡ 0
           none-held =

@@ -85,7 +85,7 @@ module _ (w k from : ℕ) (part : List ℕ) (found : Local) (t : Expr) (c : ℕ)
 
       pub arm-node : IsBitwise k → a ≡ arm.Node → Folded (Join from (length part) c)
       unfolding Makes
-      arm-node b f = by-arm (Join from (length part) c) arm.Node f (λ ws p i. (kindOf (bitwiseOf k), t, i ∙ b, refl, part-holds ws part from p t x))
+      arm-node b f = by-arm (Join from (length part) c) arm.Node f (λ ws p i. record { kind = kindOf (bitwiseOf k); operand = t; number = i ∙ b; is = refl; holds = part-holds ws part from p t x })
 
 -- ---- `reassociate_constant`
 

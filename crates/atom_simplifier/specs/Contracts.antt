@@ -3,11 +3,11 @@ use mathlib.Core.Path.{_≡_}
 use mathlib.Core.Bool.{Bool, _||_}
 use mathlib.Core.List.{List, [], _∷_, _++_}
 use mathlib.Core.Option.{Option, none, some}
-use Prim.Native.Nat.{ℕ, _+_}
+use Prim.Native.Nat.{ℕ, _+_, _≤_}
 use lib.Dec.{eqb}
 use lib.ListN.{length, drop, getD}
 use Rattle.arith.specs.Choice.{if_then_else_}
-use Rattle.expr.specs.Expr.{Binary, Add, Mul, And, Or, Xor, Concat, Expr, binary, binaryNumber, encode}
+use Rattle.expr.specs.Expr.{Binary, Expr, binary, binaryNumber, encode}
 use Rattle.rewriting.specs.Optional.{_isSome_}
 use Rattle.rewriting.specs.AtomSimplifier.{constant, not, constantVal, samePart, Bitwise, and, or, xor, kindOf, arms}
 use Rattle.atom_simplifier.specs.declared.fold.ConstantVal.{ConstantVal}
@@ -61,22 +61,27 @@ pub record Holds (ws : List ℕ) (at len : ℕ) (t : Expr) : Type 0 where
   pub within : Within ws at (encode t)
   pub words : len ≡ length (encode t)
 
--- And and Or, each the other one
-abbrev pub dual : Binary → Binary
-dual Add = Add
-dual Mul = Mul
-dual And = Or
-dual Or = And
-dual Xor = Xor
-dual Concat = Concat
+-- u is the node's own kind over the tree at that place and the constant c
+pub record Joined (ws : List ℕ) (at len c : ℕ) (u : Expr) : Type 0 where
+  pub kind : Binary
+  pub operand : Expr
+  pub number : getD ws 0 0 ≡ binaryNumber kind
+  pub is : u ≡ binary kind operand (constant c)
+  pub holds : Holds ws at len operand
 
--- the words are those of Not over an And or Or of a and b, and b stands at `right`
+-- the number of the other one of And and Or
+abbrev pub dualNumber : ℕ → ℕ
+dualNumber k = if eqb k 4 then 5 else 4
+
+-- the words are those of Not over an And or Or of two operands, the right one at that place, and u is the node turned over
 pub record Turns (ws : List ℕ) (right : ℕ) (u : Expr) : Type 0 where
   pub kind : Binary
+  pub other : Binary
   pub left-operand : Expr
   pub right-operand : Expr
   pub was : ws ≡ encode (not (binary kind left-operand right-operand))
-  pub is : u ≡ binary (dual kind) (not left-operand) (not right-operand)
+  pub is : u ≡ binary other (not left-operand) (not right-operand)
+  pub number : dualNumber (binaryNumber kind) ≡ binaryNumber other
   pub place : right ≡ 4 + length (encode left-operand)
 
 -- the tree that a decision about the node of these words makes
@@ -84,7 +89,7 @@ unfoldable pub Makes : List ℕ → Local → Expr → Type 0
 Makes ws Nothing u = ⊥
 Makes ws (Part at len) u = Holds ws at len u
 Makes ws (Constant c) u = u ≡ constant c
-Makes ws (Join at len c) u = (k : Binary) × (x : Expr) × (getD ws 0 0 ≡ binaryNumber k) × (u ≡ binary k x (constant c)) × Holds ws at len x
+Makes ws (Join at len c) u = Joined ws at len c u
 Makes ws (DeMorgan right) u = Turns ws right u
 
 -- what the definition gives for the node is what the decision makes, and Nothing where it gives none
@@ -98,3 +103,24 @@ pub record Decides (ws : List ℕ) (d : Local) (o : Option Expr) : Type 0 where
 -- the same, in every node of the kind number k that has the part at place `from`
 pub record DecidesAt (k from : ℕ) (part : List ℕ) (d : Local) (o : Option Expr) : Type 0 where
   pub in-node : (ws : List ℕ) → Within ws from part → getD ws 0 0 ≡ k → Decides ws d o
+
+-- ---- writing
+
+-- the words that are written for a part's words: the same, at every width
+unfoldable pub copied : ℕ → List ℕ → List ℕ
+copied w part = part
+
+-- the words xs were written at the front, and nothing else
+pub record Laid (before after xs : List ℕ) : Type 0 where
+  pub is : after ≡ xs ++ drop (length xs) before
+
+-- the decision makes a tree, and there is room for its words
+pub record Writable (ws : List ℕ) (d : Local) (room : ℕ) : Type 0 where
+  pub tree : Expr
+  pub makes : Makes ws d tree
+  pub fits : length (encode tree) ≤ room
+
+-- the words of the tree that the decision makes were written, n of them
+pub record Writes (ws : List ℕ) (d : Local) (before after : List ℕ) (n : ℕ) : Type 0 where
+  pub laid : (u : Expr) → Makes ws d u → Laid before after (encode u)
+  pub count : (u : Expr) → Makes ws d u → n ≡ length (encode u)

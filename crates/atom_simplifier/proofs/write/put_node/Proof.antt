@@ -1,0 +1,16 @@
+-- `put_node` meets its contract. Assumes nothing.
+use borrow.Author.Needs.{needs}
+use Rattle.atom_simplifier.proofs.WriteLaws.{writing}
+use Rattle.atom_simplifier.proofs.write.put_node.Statement.{statement}
+use Rattle.atom_simplifier.proofs.write.put_node.Tie as tie
+
+ruleset rules = (needs, writing)
+
+pub put-node-spec : {M : Type 1} → statement M
+put-node-spec =
+    tie.close
+    (tie.spec
+    (λ c. search rules)
+    (λ c. search rules)
+    (λ c. search rules)
+    (λ c. search rules))

@@ -1,0 +1,23 @@
+-- `write_not` meets its contract. Assumes nothing.
+use borrow.Author.Needs.{needs}
+use Rattle.atom_simplifier.proofs.WriteLaws.{writing}
+use Rattle.atom_simplifier.proofs.write.write_not.Statement.{statement}
+use Rattle.atom_simplifier.proofs.write.write_not.Tie as tie
+
+ruleset rules = (needs, writing)
+
+pub write-not-spec : {M : Type 1} → statement M
+write-not-spec =
+    tie.close
+    (tie.spec
+    (λ c κs. search rules)
+    (λ c. search rules)
+    (λ c. search rules)
+    (λ c. search rules)
+    (λ c. search rules)
+    (λ c. search rules)
+    (λ c. search rules)
+    (λ c. search rules)
+    (λ c κs. search rules)
+    (λ c. search rules)
+    (λ c. search rules))

@@ -1,0 +1,96 @@
+// A decision turned into words: the replacement is written at the front of the lent words, and nothing behind it.
+ghost use mathlib.Core.Path.{_≡_};
+ghost use mathlib.Core.List.{[], _∷_, _++_};
+ghost use Prim.Native.Nat.{_+_, _≤_, _<_};
+ghost use lib.ListN.{length, getD};
+ghost use Rattle.expr.specs.TailLaws.{tail};
+ghost use Rattle.expr.specs.PartLaws.{part};
+ghost use Rattle.atom_simplifier.specs.Contracts.{copied, dualNumber, Laid, Writable, Writes};
+use crate::local::Local;
+use expr::kind;
+
+// The only place where words are copied: as they stand, whatever the width.
+fn copy(part: &[u64], width: u32, out: &mut [u64])
+    requires { ⌜ length (now part) ≤ length (now out) ⌝ }
+    ensures { λ r. ⌜ Laid (now (out .entry)) (now (out .exit)) (copied width (now (part .entry))) ⌝ }
+{
+    let mut i = 0;
+    while i < part.len() {
+        out[i] = part[i];
+        i += 1;
+    }
+}
+
+fn put_node(kind: u64, operand: u64, out: &mut [u64])
+    requires { ⌜ 2 ≤ length (now out) ⌝ }
+    ensures { λ r. ⌜ Laid (now (out .entry)) (now (out .exit)) (kind ∷ operand ∷ []) ⌝ }
+{
+    out[0] = kind;
+    out[1] = operand;
+}
+
+// And for Or, Or for And.
+fn dual(kind: u64) -> u64
+    ensures { λ r. ⌜ r ≡ dualNumber kind ⌝ }
+{
+    if kind == kind::AND {
+        return kind::OR;
+    }
+    kind::AND
+}
+
+// The node's kind over the part from `at` up to `end` and the constant c.
+fn write_join(node: &[u64], at: usize, end: usize, c: u64, width: u32, out: &mut [u64])
+    requires { ⌜ (0 < length (now node)) × (at ≤ end) × (end ≤ length (now node)) × (4 + end ≤ length (now out) + at) ⌝ }
+    ensures { λ r. ⌜ Laid (now (out .entry)) (now (out .exit)) (((getD (now (node .entry)) 0 0 ∷ 0 ∷ []) ++ copied width (part at end (now (node .entry)))) ++ (0 ∷ c ∷ [])) ⌝ }
+{
+    put_node(node[0], 0, out);
+    copy(&node[at..end], width, &mut out[2..]);
+    let last = 2 + (end - at);
+    put_node(kind::CONSTANT, c, &mut out[last..]);
+}
+
+// A Not over the operand from `at` up to `end`, behind the words that are written already.
+fn write_not(node: &[u64], at: usize, end: usize, width: u32, out: &mut [u64])
+    requires { ⌜ (at ≤ end) × (end ≤ length (now node)) × (2 + end ≤ length (now out) + at) ⌝ }
+    ensures { λ r. ⌜ Laid (now (out .entry)) (now (out .exit)) ((7 ∷ 0 ∷ []) ++ copied width (part at end (now (node .entry)))) ⌝ }
+{
+    put_node(kind::NOT, 0, out);
+    copy(&node[at..end], width, &mut out[2..]);
+}
+
+// The other kind over a Not of each operand; the right operand is at `right`.
+fn write_de_morgan(node: &[u64], right: usize, width: u32, out: &mut [u64])
+    requires { ⌜ (4 ≤ right) × (right ≤ length (now node)) × (2 + length (now node) ≤ length (now out)) ⌝ }
+    ensures { λ r. ⌜ Laid (now (out .entry)) (now (out .exit)) (((dualNumber (getD (now (node .entry)) 2 0) ∷ 0 ∷ []) ++ ((7 ∷ 0 ∷ []) ++ copied width (part 4 right (now (node .entry))))) ++ ((7 ∷ 0 ∷ []) ++ copied width (part right (length (now (node .entry))) (now (node .entry))))) ⌝ }
+{
+    put_node(dual(node[2]), 0, out);
+    write_not(node, 4, right, width, &mut out[2..]);
+    write_not(node, right, node.len(), width, &mut out[right..]);
+}
+
+// The number of words that are written.
+pub(crate) fn write_replacement(node: &[u64], local: Local, width: u32, out: &mut [u64]) -> usize
+    requires { ⌜ Writable (now node) local (length (now out)) × (length (now node) ≤ 1024) ⌝ }
+    ensures { λ r. ⌜ Writes (now (node .entry)) local (now (out .entry)) (now (out .exit)) r ⌝ }
+{
+    match local {
+        Local::Nothing => 0,
+        Local::Part(at, len) => {
+            copy(&node[at..at + len], width, out);
+            len
+        }
+        Local::Constant(c) => {
+            put_node(kind::CONSTANT, c, out);
+            2
+        }
+        Local::Join(at, len, c) => {
+            write_join(node, at, at + len, c, width, out);
+            4 + len
+        }
+        Local::DeMorgan(right) => {
+            write_de_morgan(node, right, width, out);
+            2 + node.len()
+        }
+    }
+}
