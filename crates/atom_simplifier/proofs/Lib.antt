@@ -6,3 +6,4 @@ pub mod NodeFoldLaws
 pub mod LocalLaws
 pub mod WriteLaws
 pub mod ReplacementLaws
+pub mod SearchLaws

@@ -149,7 +149,7 @@ root-not (binary Xor l r) = refl
 root-not (binary Concat l r) = refl
 
 -- the first word of a tree is not that of what follows it
-first-word : (t : Expr) (vs : List ℕ) → getD (encode t ++ vs) 0 0 ≡ getD (encode t) 0 0
+pub first-word : (t : Expr) (vs : List ℕ) → getD (encode t ++ vs) 0 0 ≡ getD (encode t) 0 0
 unfolding encode
 first-word (leaf k) vs = refl
 first-word (unary k t) vs = refl

@@ -9,6 +9,7 @@ use lib.ListN.{length, drop, getD}
 use Rattle.arith.specs.Choice.{if_then_else_}
 use Rattle.expr.specs.Expr.{Binary, Expr, binary, binaryNumber, encode}
 use Rattle.rewriting.specs.Optional.{_isSome_}
+use Rattle.rewriting.specs.AtomSimplifier as def
 use Rattle.rewriting.specs.AtomSimplifier.{constant, not, constantVal, samePart, Bitwise, and, or, xor, kindOf, arms}
 use Rattle.atom_simplifier.specs.declared.fold.ConstantVal.{ConstantVal}
 use Rattle.atom_simplifier.specs.declared.fold.ConstantVal.the-variants as val
@@ -16,6 +17,9 @@ use Rattle.atom_simplifier.specs.declared.fold.Arm.{Arm}
 use Rattle.atom_simplifier.specs.declared.fold.Arm.the-variants as arm
 use Rattle.atom_simplifier.specs.declared.local.Local.{Local}
 use Rattle.atom_simplifier.specs.declared.local.Local.the-variants.{Nothing, Part, Constant, Join, DeMorgan}
+use Rattle.atom_simplifier.specs.declared.search.Site.{Site}
+use Rattle.atom_simplifier.specs.declared.search.Search.{Search}
+use Rattle.atom_simplifier.specs.declared.search.Search.the-variants.{None, Found}
 
 -- a constant's word, or none
 abbrev pub constantOption : ConstantVal → Option ℕ
@@ -124,3 +128,34 @@ pub record Writable (ws : List ℕ) (d : Local) (room : ℕ) : Type 0 where
 pub record Writes (ws : List ℕ) (d : Local) (before after : List ℕ) (n : ℕ) : Type 0 where
   pub laid : (u : Expr) → Makes ws d u → Laid before after (encode u)
   pub count : (u : Expr) → Makes ws d u → n ≡ length (encode u)
+
+-- ---- the search
+
+-- what the root is, whose children have no site: n words that stay, or a site
+abbrev pub atRoot : ℕ → Local → Search
+atRoot n Nothing = None n
+atRoot n (Part at len) = Found (record { at = 0; words = n; levels = 0; local = Part at len })
+atRoot n (Constant c) = Found (record { at = 0; words = n; levels = 0; local = Constant c })
+atRoot n (Join at len c) = Found (record { at = 0; words = n; levels = 0; local = Join at len c })
+atRoot n (DeMorgan right) = Found (record { at = 0; words = n; levels = 0; local = DeMorgan right })
+
+-- a site of the child whose words begin at `by`, as its parent sees it
+abbrev pub underParent : ℕ → Site → Site
+underParent by s = record { at = s .at + by; words = s .words; levels = s .levels + 1; local = s .local }
+
+-- the words hold the site's node at its place, and its path was written at the front of the lent bytes
+pub record IsFound (site : def.Site) (ws before after : List ℕ) (s : Site) : Type 0 where
+  pub bytes : Laid before after (site .path)
+  pub levels-is : s .levels ≡ length (site .path)
+  pub node : List ℕ
+  pub within : Within ws (s .at) node
+  pub words-is : s .words ≡ length node
+  pub makes : Makes node (s .local) (site .replacement)
+
+-- the answer is the site o, whose node stands in the words, or none and the number n of words, with nothing written
+unfoldable pub SearchIs : Option def.Site → List ℕ → ℕ → List ℕ → List ℕ → Search → Type 0
+SearchIs o ws n before after (None m) = (o ≡ none) × (m ≡ n) × (after ≡ before)
+SearchIs o ws n before after (Found s) = (site : def.Site) × (o ≡ some site) × IsFound site ws before after s
+
+pub record Searched (o : Option def.Site) (ws : List ℕ) (n : ℕ) (before after : List ℕ) (r : Search) : Type 0 where
+  pub is : SearchIs o ws n before after r

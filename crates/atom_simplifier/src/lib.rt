@@ -1,3 +1,4 @@
 mod fold;
 mod local;
+mod search;
 mod write;

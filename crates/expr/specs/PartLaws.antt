@@ -13,7 +13,7 @@ use Rattle.expr.specs.ExprLaws.{nodes-pos, depth-nodes, length-encode}
 use Rattle.expr.specs.Parse.{Kind, none, one, two, arity, arityOf, operandOk, operandsOk, subtree}
 use Rattle.expr.specs.ParseLaws.{subtree-encode}
 use Rattle.expr.specs.KindLaws.{number, operand, number-arity}
-use Rattle.expr.specs.Front.{Front, orZero, treeAt, Exactly, Whole, leftOf, rightOf}
+use Rattle.expr.specs.Front.{Front, Starts, orZero, treeAt, Exactly, Whole, leftOf, rightOf}
 use Rattle.expr.specs.TailLaws.{tail, tail-drop, length-tail}
 
 -- the part `&ws[a..e]`, as a call is handed it
@@ -28,6 +28,12 @@ module _ (ws : List ℕ) (t : Expr) where
   front-tree f =
       let deep : depth t ≤ length ws = omega (arith, depth-nodes t, length-encode t, ap length (f .words), length-append (encode t) (f .rest)) in
       ap (λ (l : List ℕ). orZero (subtree (length ws) l)) (f .words) ∙ ap orZero (subtree-encode t (length ws) (f .rest) deep (f .operands))
+
+  -- the tree's own words, of those that begin with them
+  pub front-part : Front ws t → (n : ℕ) → n ≡ length (encode t) → Exactly (part 0 n ws) t
+  front-part f n e =
+      let m : length (encode t) ≡ n - 0 = omega arith in
+      record { words = ap (take (n - 0)) (f .words) ∙ take-at (encode t) (f .rest) (n - 0) m; operands = f .operands }
 
   pub exact-front : Exactly ws t → Front ws t
   exact-front x = record { rest = []; words = x .words ∙ sym (append-nil (encode t)); operands = x .operands }
@@ -49,6 +55,9 @@ module _ (ws : List ℕ) (t : Expr) where
 
   pub exact-node : Exactly ws t → 2 ≤ length ws
   exact-node x = omega (arith, exact-length x, nodes-pos t)
+
+pub starts-front : (ws : List ℕ) → Starts ws → Front ws (treeAt ws)
+starts-front ws s = subst (Front ws) (sym (front-tree ws (s .tree) (s .front))) (s .front)
 
 -- ---- a node, as its arity tells
 
