@@ -7,3 +7,4 @@ pub mod LocalLaws
 pub mod WriteLaws
 pub mod ReplacementLaws
 pub mod SearchLaws
+pub mod CallLaws

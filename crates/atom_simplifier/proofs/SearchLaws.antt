@@ -60,14 +60,14 @@ module _ (o : Option def.Site) (ws : List ℕ) (n : ℕ) (before after : List �
   told q e = subst (SearchIs o ws n before after) e (h .is)
 
   module _ (m : ℕ) (e : r ≡ None m) where
-    none-is : (o ≡ none) × (m ≡ n) × (after ≡ before)
+    pub none-is : (o ≡ none) × (m ≡ n) × (after ≡ before)
     unfolding SearchIs
     none-is = told (None m) e
 
     pub none-words : m ≡ n
     none-words = none-is .1
 
-  found-is : (s : Site) → r ≡ Found s → (site : def.Site) × (o ≡ some site) × IsFound site ws before after s
+  pub found-is : (s : Site) → r ≡ Found s → (site : def.Site) × (o ≡ some site) × IsFound site ws before after s
   unfolding SearchIs
   found-is s e = told (Found s) e
 

@@ -8,6 +8,7 @@ use lib.Dec.{eqb}
 use lib.ListN.{length, drop, getD}
 use Rattle.arith.specs.Choice.{if_then_else_}
 use Rattle.expr.specs.Expr.{Binary, Expr, binary, binaryNumber, encode}
+use Rattle.expr.specs.PartLaws.{part}
 use Rattle.rewriting.specs.Optional.{_isSome_}
 use Rattle.rewriting.specs.AtomSimplifier as def
 use Rattle.rewriting.specs.AtomSimplifier.{constant, not, constantVal, samePart, Bitwise, and, or, xor, kindOf, arms}
@@ -151,6 +152,15 @@ pub record IsFound (site : def.Site) (ws before after : List ℕ) (s : Site) : T
   pub within : Within ws (s .at) node
   pub words-is : s .words ≡ length node
   pub makes : Makes node (s .local) (site .replacement)
+
+-- a site's words, of those of the tree
+abbrev pub siteWords : List ℕ → Site → List ℕ
+siteWords ws s = part (s .at) (s .at + s .words) ws
+
+-- they are all there, and there is room for what the site becomes
+pub record HoldsSite (ws : List ℕ) (s : Site) (room : ℕ) : Type 0 where
+  pub inside : s .at + s .words ≤ length ws
+  pub writable : Writable (siteWords ws s) (s .local) room
 
 -- the answer is the site o, whose node stands in the words, or none and the number n of words, with nothing written
 unfoldable pub SearchIs : Option def.Site → List ℕ → ℕ → List ℕ → List ℕ → Search → Type 0

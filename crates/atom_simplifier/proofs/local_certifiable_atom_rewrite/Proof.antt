@@ -1,0 +1,22 @@
+-- `local_certifiable_atom_rewrite` meets its contract. Assumes nothing.
+use borrow.Author.Needs.{needs}
+use Rattle.atom_simplifier.proofs.CallLaws.{localCall}
+use Rattle.atom_simplifier.proofs.local_certifiable_atom_rewrite.Statement.{statement}
+use Rattle.atom_simplifier.proofs.local_certifiable_atom_rewrite.Tie as tie
+
+ruleset rules = (needs, localCall)
+
+pub local-certifiable-atom-rewrite-spec : {M : Type 1} → statement M
+local-certifiable-atom-rewrite-spec =
+    tie.close
+    (tie.spec
+    (λ c κs. search rules)
+    (λ c. search rules)
+    (λ c. search rules)
+    (λ c κs. search rules)
+    (λ c. search rules)
+    (λ c κs. search rules)
+    (λ c. search rules)
+    (λ c. search rules)
+    (λ c. search rules)
+    (λ c. search rules))

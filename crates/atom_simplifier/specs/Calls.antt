@@ -1,0 +1,42 @@
+-- What the two public calls come to, and what they leave in the lent places. Definitions only.
+use mathlib.Core.List.{List, _++_}
+use mathlib.Core.Option.{Option, none, some}
+use Prim.Native.Nat.{ℕ, _+_, _*_}
+use lib.Dec.{ltb}
+use lib.ListN.{length, drop}
+use Rattle.arith.specs.Choice.{if_then_else_}
+use Rattle.expr.specs.Refusals.{refusal}
+use Rattle.expr.specs.Outcome.{Outcome, refused, accepted, mapped, _andThen_}
+use Rattle.expr.specs.Expr.{Expr, nodes}
+use Rattle.expr.specs.Parse.{parse}
+use Rattle.width.specs.Width.{supported}
+use Rattle.rewriting.specs.AtomSimplifier.{Site, localRewrite, firstSite}
+
+-- 9 where an output of so many words has no room for one node more than the tree has
+unfoldable pub withRoom : ℕ → Expr → Outcome Expr
+withRoom room t = if ltb room (2 * (nodes t + 1)) then refused (refusal 9) else accepted t
+
+-- the tree that is rewritten, or the refusal: 1, then 2 to 7, then 9
+unfoldable pub admitted : List ℕ → ℕ → ℕ → Outcome Expr
+admitted ws w room = if supported w then parse ws andThen withRoom room else refused (refusal 1)
+
+-- `local_certifiable_atom_rewrite`: the local rewrite of the tree, if it has one
+unfoldable pub localRewriteAt : List ℕ → ℕ → ℕ → Outcome (Option Expr)
+localRewriteAt ws w room = mapped (localRewrite w) (admitted ws w room)
+
+-- `find_first_certifiable_atom_rewrite`: the first site, if there is one; 9 also where the path has no room for 63 bytes
+unfoldable pub firstSiteAt : List ℕ → ℕ → ℕ → ℕ → Outcome (Option Site)
+firstSiteAt ws w bytes room =
+    admitted ws w room andThen (λ t. if ltb bytes 63 then refused (refusal 9) else accepted (firstSite w t))
+
+-- ---- what is written
+
+-- the lent places with xs at their front, and as they were behind it
+abbrev pub over : List ℕ → List ℕ → List ℕ
+over xs lent = xs ++ drop (length xs) lent
+
+-- what is written of an answer is what f gives of it; nothing is where there is none, or a refusal
+abbrev pub written : {A : Type 0} → (A → List ℕ) → Outcome (Option A) → List ℕ → List ℕ
+written f (refused r) lent = lent
+written f (accepted none) lent = lent
+written f (accepted (some a)) lent = over (f a) lent
