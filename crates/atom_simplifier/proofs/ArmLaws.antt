@@ -1,11 +1,9 @@
 -- The arms of the fold, in the order of the tests. Assumes nothing.
 use mathlib.Core.Path.{_≡_, sym, ap, subst, _∙_}
-use mathlib.Core.Bool.{Bool, true, false, _||_}
-use Prim.Native.Nat.{ℕ, _%_, _^_, _≤_}
+use mathlib.Core.Bool.{Bool, true, false}
+use Prim.Native.Nat.{ℕ, _≤_}
 use lib.Bits.{bitAnd, bitOr, bitXor}
-use lib.Dec.{eqb}
 use borrow.Author.Tests.{ne-eqb}
-use Rattle.arith.specs.Choice.{if_then_else_}
 use Rattle.arith.specs.Bv.{ones}
 use Rattle.arith.specs.Arith.{bitmaskOf, lowBits}
 use Rattle.arith.specs.ArithLaws.{mask-is, low-is}

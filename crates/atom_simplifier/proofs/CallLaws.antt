@@ -1,12 +1,12 @@
 -- The two public calls: what is checked, answered and written. Assumes nothing.
 use mathlib.Core.Path.{_≡_, refl, sym, ap, ap₂, subst, _∙_}
 use mathlib.Core.Bool.{Bool, true, false}
-use mathlib.Core.List.{List, [], _∷_, _++_}
+use mathlib.Core.List.{List, _++_}
 use mathlib.Core.Option.{Option, none, some}
-use Prim.Native.Nat.{ℕ, _+_, _*_, _-_, _/_, _^_, _≤_, _<_}
+use Prim.Native.Nat.{ℕ, _+_, _*_, _-_, _/_, _≤_, _<_}
 use native.Mathlib.Omega.{arith}
 use lib.Dec.{ltb}
-use lib.ListN.{length, take, drop, length-append, length-take}
+use lib.ListN.{length, take, drop, length-append}
 use lib.Seq.{take-at, drop-at}
 use mir.Syntax.{w64}
 use mir.Val.{Fits}
@@ -18,29 +18,28 @@ use Rattle.expr.specs.declared.Counted.{Counted}
 use Rattle.expr.specs.declared.Counted.the-variants as counted
 use Rattle.expr.specs.Refusals.{refusal, reasonOf}
 use Rattle.expr.specs.Outcome.{Outcome, refused, accepted, mapped, _andThen_}
-use Rattle.expr.specs.OutcomeLaws.{then-accepted, then-refused, mapped-accepted, Made, mapped-made, refused-then, refused-mapped}
+use Rattle.expr.specs.OutcomeLaws.{then-accepted, mapped-accepted, Made, mapped-made, refused-then, refused-mapped}
 use Rattle.expr.specs.Expr.{Expr, encode, nodes, depth}
-use Rattle.expr.specs.ExprLaws.{nodes-pos, length-encode}
+use Rattle.expr.specs.ExprLaws.{length-encode}
 use Rattle.expr.specs.Parse.{parse}
 use Rattle.expr.specs.ParseLaws.{parse-sound}
 use Rattle.expr.specs.Answers.{countedOutcome}
-use Rattle.expr.specs.Front.{Front, Starts, Exactly, Whole, treeAt}
-use Rattle.expr.specs.FrontLaws.{parse-front}
-use Rattle.expr.specs.PartLaws.{part, exact-front, exact-tree, exact-whole}
+use Rattle.expr.specs.Front.{Starts, Exactly, Whole, treeAt}
+use Rattle.expr.specs.PartLaws.{exact-front, exact-tree, exact-whole}
 use Rattle.width.specs.Width.{supported}
 use Rattle.width.specs.WidthLaws.{in-range, too-narrow, too-wide, supported-is}
 use Rattle.rewriting.specs.Optional.{map}
 use Rattle.rewriting.specs.AtomSimplifier as def
 use Rattle.rewriting.specs.AtomSimplifier.{localRewrite, firstSite, subtreeAt}
-use Rattle.rewriting.specs.SiteLaws.{IsSite, first-site}
+use Rattle.rewriting.specs.SiteLaws.{first-site}
 use Rattle.rewriting.specs.MeasureLaws.{local-nodes}
 use Rattle.atom_simplifier.specs.declared.local.Local.{Local}
 use Rattle.atom_simplifier.specs.declared.local.Local.the-variants.{Nothing}
 use Rattle.atom_simplifier.specs.declared.search.Site.{Site}
 use Rattle.atom_simplifier.specs.declared.search.Search.{Search}
 use Rattle.atom_simplifier.specs.declared.search.Search.the-variants.{None, Found}
-use Rattle.atom_simplifier.specs.Calls.{withRoom, admitted, localRewriteAt, firstSiteAt, over, written}
-use Rattle.atom_simplifier.specs.Contracts.{Within, Makes, Decides, Laid, Writable, Writes, IsFound, siteWords, HoldsSite, Searched}
+use Rattle.atom_simplifier.specs.Calls.{withRoom, admitted, localRewriteAt, firstSiteAt, written}
+use Rattle.atom_simplifier.specs.Contracts.{Makes, Decides, Writable, Writes, IsFound, siteWords, HoldsSite, Searched}
 use Rattle.atom_simplifier.proofs.DecideLaws.{is-rewrite, none-decided, some-decided}
 use Rattle.atom_simplifier.proofs.SearchLaws.{none-is, found-is}
 
@@ -214,27 +213,6 @@ module _ (ws : List ℕ) (w room : ℕ) (x : Counted) (h : countedOutcome x ≡ 
     refused-written out = sym (ap (λ (o : Outcome (Option Expr)). written encode o out) turned)
 
 pub ruleset localCall = (is-rewrite, call-whole, call-short, call-width, none-answered, none-written, call-writable, some-answered, some-written, local-refused, refused-written)
-
--- ---- `write_site`
-
-module _ (ws : List ℕ) (s : Site) (room : ℕ) (h : HoldsSite ws s room) where
-  pub site-inside : s .at + s .words ≤ length ws
-  site-inside = h .inside
-
-  pub site-writable : Writable (siteWords ws s) (s .local) room
-  site-writable = h .writable
-
-  module _ (l : length ws ≤ 1024) where
-    pub site-end : Fits w64 (s .at + s .words)
-    site-end = omega (arith, h .inside)
-
-    pub site-scaled : Fits w64 (s .at * 8)
-    site-scaled = omega (arith, h .inside)
-
-    pub site-short : length (siteWords ws s) ≤ 1024
-    site-short = omega (arith, length-take (s .at + s .words - s .at) (drop (s .at) ws), h .inside)
-
-pub ruleset siteWriting = (site-inside, site-writable, site-end, site-scaled, site-short)
 
 -- ---- `find_first_certifiable_atom_rewrite`
 

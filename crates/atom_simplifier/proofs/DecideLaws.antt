@@ -3,7 +3,7 @@ use mathlib.Core.Path.{_≡_, refl, sym, ap, subst, _∙_}
 use mathlib.Core.Logic.{⊎-elim}
 use mathlib.Core.List.{List, [], _∷_, _++_, append-assoc, append-nil}
 use mathlib.Core.Option.{Option, none, some}
-use Prim.Native.Nat.{ℕ, _+_, _-_, _≤_}
+use Prim.Native.Nat.{ℕ, _+_, _-_}
 use native.Mathlib.Omega.{arith}
 use lib.ListN.{length, getD, length-append}
 use denote.Enum.Declared.{tagOf}
@@ -14,9 +14,8 @@ use Rattle.expr.specs.Parse.{arityOf}
 use Rattle.expr.specs.TailLaws.{tail, length-tail}
 use Rattle.expr.specs.Front.{Exactly, leftOf, rightOf}
 use Rattle.expr.specs.PartLaws.{part, two-children, left-exact, right-exact}
-use Rattle.rewriting.specs.Optional.{_otherwise_}
 use Rattle.atom_simplifier.specs.declared.local.Local.{Local}
-use Rattle.atom_simplifier.specs.declared.local.Local.the-variants.{Nothing, Part, Constant, Join, DeMorgan}
+use Rattle.atom_simplifier.specs.declared.local.Local.the-variants.{Nothing}
 use Rattle.atom_simplifier.proofs.local.Local.{the-type}
 use Rattle.atom_simplifier.specs.Contracts.{Within, Holds, Makes, Meaning, Decides}
 

@@ -1,10 +1,9 @@
 -- The local rewrite of a node, from its words. Assumes nothing.
 use mathlib.Core.Path.{_≡_, refl, sym, ap, ap₂, subst, _∙_}
-use mathlib.Core.Logic.{_⊎_, inl, inr, ⊎-elim}
-use mathlib.Core.Bool.{Bool, true, false, not, _&&_, _||_}
+use mathlib.Core.Bool.{Bool, true, false, not, _||_}
 use mathlib.Core.List.{List, [], _∷_, _++_}
 use mathlib.Core.Option.{Option, none, some}
-use Prim.Native.Nat.{ℕ, _+_, _*_, _-_, _^_, _≤_, _<_}
+use Prim.Native.Nat.{ℕ, _+_, _-_, _≤_, _<_}
 use native.Mathlib.Omega.{arith}
 use lib.Dec.{eqb}
 use lib.ListN.{length, getD, length-append}
@@ -16,24 +15,23 @@ use Rattle.arith.specs.Choice.{if_then_else_}
 use Rattle.expr.specs.declared.refusal.Refusal.{Refusal}
 use Rattle.expr.specs.declared.Arity.{Arity}
 use Rattle.expr.specs.declared.Arity.the-variants as arity
-use Rattle.expr.specs.Refusals.{reasonOf}
-use Rattle.expr.specs.Outcome.{refused, accepted}
-use Rattle.expr.specs.Expr.{Leaf, Constant, Variable, Unary, Not, Neg, Shr, ZExt, SExt, Trunc, Binary, Add, Mul, And, Or, Xor, Concat, Expr, leaf, unary, binary, leafNumber, unaryNumber, unaryOperand, binaryNumber, encode, nodes}
+use Rattle.expr.specs.Outcome.{accepted}
+use Rattle.expr.specs.Expr.{Constant, Variable, Unary, Not, Neg, Shr, ZExt, SExt, Trunc, Binary, Add, Mul, And, Or, Xor, Concat, Expr, leaf, unary, binary, unaryNumber, unaryOperand, binaryNumber, encode}
 use Rattle.expr.specs.ExprLaws.{nodes-pos, length-encode}
 use Rattle.expr.specs.Parse.{arityOf}
 use Rattle.expr.specs.Parse as kinds
 use Rattle.expr.specs.KindLaws.{number, number-arity, same-binary}
 use Rattle.expr.specs.Answers.{arityOutcome}
-use Rattle.expr.specs.TailLaws.{tail, tail-drop, length-tail}
-use Rattle.expr.specs.Front.{Exactly, Whole, treeAt, leftOf, rightOf}
-use Rattle.expr.specs.PartLaws.{part, parts, OneChild, TwoChildren, exact-length, exact-tree, no-child, one-child, two-children, child-tree, left-tree, right-tree, right-within}
+use Rattle.expr.specs.TailLaws.{tail, length-tail}
+use Rattle.expr.specs.Front.{Exactly, treeAt, leftOf, rightOf}
+use Rattle.expr.specs.PartLaws.{part, parts, OneChild, TwoChildren, exact-tree, no-child, one-child, two-children, left-tree, right-tree}
 use Rattle.rewriting.specs.Optional.{onlyIf, _isSome_}
 use Rattle.rewriting.specs.AtomSimplifier as def
 use Rattle.rewriting.specs.AtomSimplifier.{constant, isNotKind, isNot, constantVal, samePart, Bitwise, and, or, xor, kindOf, foldRewrite, deMorgan, notRewrite, unaryRewrite, binaryRewrite, localRewrite}
 use Rattle.atom_simplifier.specs.declared.local.Local.{Local}
 use Rattle.atom_simplifier.specs.declared.local.Local.the-variants as local
-use Rattle.atom_simplifier.specs.Contracts.{isConstant, bitwiseOf, IsBitwise, Within, Holds, dualNumber, Turns, Makes, Decides}
-use Rattle.atom_simplifier.proofs.DecideLaws.{decides-none, decides-some, part-holds, all-within, left-holds, part-within}
+use Rattle.atom_simplifier.specs.Contracts.{isConstant, bitwiseOf, IsBitwise, Within, Holds, dualNumber, Makes, Decides}
+use Rattle.atom_simplifier.proofs.DecideLaws.{decides-none, decides-some, all-within, left-holds, part-within}
 use Rattle.atom_simplifier.proofs.OperandLaws.{number-not, number-bitwise, bitwise-arity, is-not-kind}
 
 -- ---- a node with one child

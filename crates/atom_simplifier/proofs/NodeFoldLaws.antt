@@ -1,9 +1,9 @@
 -- `try_fold_binary`: the fold of a node, from its words. Assumes nothing.
 use mathlib.Core.Path.{_≡_, refl, sym, ap, ap₂, subst, _∙_}
 use mathlib.Core.Bool.{Bool, true, false}
-use mathlib.Core.List.{List, [], _∷_, _++_}
+use mathlib.Core.List.{List}
 use mathlib.Core.Option.{Option, none, some}
-use Prim.Native.Nat.{ℕ, _+_, _-_, _^_, _≤_, _<_}
+use Prim.Native.Nat.{ℕ, _+_, _-_, _≤_}
 use native.Mathlib.Omega.{arith}
 use lib.Dec.{T}
 use lib.ListN.{length, getD}
@@ -14,9 +14,9 @@ use Rattle.expr.specs.Expr.{Expr, binary, encode, nodes}
 use Rattle.expr.specs.Parse.{arityOf}
 use Rattle.expr.specs.TailLaws.{tail, length-tail}
 use Rattle.expr.specs.Front.{Exactly, treeAt, leftOf, rightOf}
-use Rattle.expr.specs.PartLaws.{part, parts, left-exact, right-exact, left-tree, right-tree, right-most}
+use Rattle.expr.specs.PartLaws.{part, parts, left-exact, left-tree, right-tree, right-most}
 use Rattle.rewriting.specs.Optional.{_andThen_, _orElse_, _otherwise_}
-use Rattle.rewriting.specs.AtomSimplifier.{constant, constantVal, samePart, Bitwise, kindOf, arms, reassociateConstant, tryFoldBinary, foldRewrite}
+use Rattle.rewriting.specs.AtomSimplifier.{constantVal, samePart, Bitwise, kindOf, arms, reassociateConstant, tryFoldBinary, foldRewrite}
 use Rattle.rewriting.specs.ShapeLaws.{Less, less-constant, less-left, less-right, reassociated-less, fold-fires}
 use Rattle.rewriting.specs.TestLaws.{same-part→eq, eq→same-part}
 use Rattle.atom_simplifier.specs.declared.fold.ConstantVal.{ConstantVal}
@@ -24,9 +24,9 @@ use Rattle.atom_simplifier.specs.declared.fold.ConstantVal.the-variants 
 use Rattle.atom_simplifier.specs.declared.fold.Arm.{Arm}
 use Rattle.atom_simplifier.specs.declared.fold.Arm.the-variants as arm
 use Rattle.atom_simplifier.specs.declared.local.Local.{Local}
-use Rattle.atom_simplifier.specs.declared.local.Local.the-variants.{Nothing, Part, Constant, Join, DeMorgan}
-use Rattle.atom_simplifier.specs.Contracts.{constantOption, armTree, bitwiseOf, IsBitwise, armRewrite, Within, Holds, Makes, Decides, DecidesAt}
-use Rattle.atom_simplifier.proofs.DecideLaws.{is-rewrite, decides-none, decides-some, none-decided, some-decided, part-holds, left-within, right-within, all-within, left-holds, right-holds}
+use Rattle.atom_simplifier.specs.declared.local.Local.the-variants.{Nothing, Part, Constant}
+use Rattle.atom_simplifier.specs.Contracts.{constantOption, armTree, bitwiseOf, IsBitwise, armRewrite, Within, Makes, Decides, DecidesAt}
+use Rattle.atom_simplifier.proofs.DecideLaws.{is-rewrite, decides-none, decides-some, none-decided, some-decided, left-within, right-within, all-within, left-holds, right-holds}
 use Rattle.atom_simplifier.proofs.OperandLaws.{bitwise-arity}
 
 -- ---- `reassociate_beside`
@@ -57,9 +57,6 @@ module _ (node : List ℕ) (t : Expr) (x : Exactly node t) (b : IsBitwise (getD 
 
   most : right ≤ length node
   most = right-most node t x a right q
-
-  pub from-right-on : 2 ≤ right
-  from-right-on = omega arith
 
   module _ (h : length node ≤ 1024) where
     pub first-room : 2 + length (part 2 right node) ≤ 1024

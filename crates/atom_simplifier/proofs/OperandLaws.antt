@@ -1,9 +1,9 @@
 -- What the fold asks of its operands, read off their words. Assumes nothing.
 use mathlib.Core.Path.{_≡_, refl, sym, ap, subst, _∙_}
 use mathlib.Core.Bool.{Bool, true, false, _&&_, _||_}
-use mathlib.Core.List.{List, [], _∷_, _++_}
+use mathlib.Core.List.{List}
 use mathlib.Core.Option.{Option, none, some}
-use Prim.Native.Nat.{ℕ, _+_, _*_, _-_, _^_, _≤_, _<_}
+use Prim.Native.Nat.{ℕ, _+_, _*_, _-_, _≤_}
 use native.Mathlib.Omega.{arith}
 use lib.Dec.{T, eqb}
 use lib.ListN.{length, getD, length-append}
@@ -14,8 +14,8 @@ use Rattle.arith.specs.Choice.{if_then_else_}
 use Rattle.expr.specs.declared.refusal.Refusal.{Refusal}
 use Rattle.expr.specs.declared.Counted.{Counted}
 use Rattle.expr.specs.declared.Counted.the-variants.{Count, Refused}
-use Rattle.expr.specs.Outcome.{Outcome, refused, accepted}
-use Rattle.expr.specs.Expr.{Leaf, Constant, Variable, Unary, Not, Neg, Shr, ZExt, SExt, Trunc, Binary, Expr, leaf, unary, binary, leafNumber, leafOperand, unaryNumber, binaryNumber, encode, nodes}
+use Rattle.expr.specs.Outcome.{accepted}
+use Rattle.expr.specs.Expr.{Leaf, Constant, Variable, Unary, Not, Neg, Shr, ZExt, SExt, Trunc, Expr, leaf, unary, binary, leafNumber, leafOperand, unaryNumber, binaryNumber, encode, nodes}
 use Rattle.expr.specs.ExprLaws.{nodes-pos, length-encode}
 use Rattle.expr.specs.Parse.{arityOf, wordCountOk}
 use Rattle.expr.specs.Parse as kinds
@@ -26,10 +26,10 @@ use Rattle.expr.specs.Span.{spanOf}
 use Rattle.expr.specs.SpanLaws.{span-encode}
 use Rattle.expr.specs.SameWords.{sameWords}
 use Rattle.expr.specs.TailLaws.{tail}
-use Rattle.expr.specs.Front.{Exactly, Whole, treeAt, leftOf, rightOf}
+use Rattle.expr.specs.Front.{Exactly, treeAt, leftOf, rightOf}
 use Rattle.expr.specs.PartLaws.{part, parts, TwoChildren, exact-length, no-child, one-child, two-children, child-tree, left-tree, right-tree}
 use Rattle.rewriting.specs.Optional.{_isSome_}
-use Rattle.rewriting.specs.AtomSimplifier.{isNotKind, sameKind, constantVal, samePart, isNotOf, areComplements, containsOperand, Bitwise, kindOf}
+use Rattle.rewriting.specs.AtomSimplifier.{isNotKind, constantVal, samePart, isNotOf, areComplements, containsOperand, kindOf}
 use Rattle.atom_simplifier.specs.declared.fold.ConstantVal.{ConstantVal}
 use Rattle.atom_simplifier.specs.declared.fold.ConstantVal.the-variants as val
 use Rattle.atom_simplifier.specs.Contracts.{constantOption, isConstant, eitherConstant, bitwiseOf, IsBitwise}

@@ -1,21 +1,20 @@
 -- Reassociation, and the fold of a node. Assumes nothing.
 use mathlib.Core.Path.{_≡_, refl, sym, ap, subst, _∙_}
-use mathlib.Core.List.{List, [], _∷_, _++_, append-nil}
+use mathlib.Core.List.{List, [], _∷_}
 use mathlib.Core.Option.{Option, none, some}
-use Prim.Native.Nat.{ℕ, _+_, _*_, _-_, _^_, _≤_, _<_}
+use Prim.Native.Nat.{ℕ, _+_, _-_, _≤_}
 use native.Mathlib.Omega.{arith}
 use lib.ListN.{length, getD}
 use mir.Syntax.{w64}
 use mir.Val.{Fits}
 use borrow.Author.Tests.{ne-eqb, eq-eqb}
-use Rattle.arith.specs.Choice.{if_then_else_}
 use Rattle.expr.specs.Expr.{Expr, leaf, unary, binary, binaryNumber, encode}
 use Rattle.expr.specs.Outcome.{accepted}
 use Rattle.expr.specs.Parse.{arityOf, operandOk, operandsOk}
 use Rattle.expr.specs.TailLaws.{tail, length-tail}
 use Rattle.expr.specs.Front.{Exactly, Whole, treeAt, leftOf, rightOf}
 use Rattle.expr.specs.PartLaws.{part, parts, exact-tree, exact-whole, exact-node, two-children, left-exact, left-tree, right-tree, right-most}
-use Rattle.rewriting.specs.Optional.{map, _andThen_, _orElse_, _otherwise_}
+use Rattle.rewriting.specs.Optional.{map, _orElse_, _otherwise_}
 use Rattle.rewriting.specs.AtomSimplifier.{constant, constantVal, kindOf, arms, foldedWord, reassociateConstant, tryFoldBinary}
 use Rattle.rewriting.specs.FoldLaws.{fold-again, reassociate-is}
 use Rattle.atom_simplifier.specs.declared.fold.ConstantVal.{ConstantVal}
@@ -23,7 +22,7 @@ use Rattle.atom_simplifier.specs.declared.fold.ConstantVal.the-variants 
 use Rattle.atom_simplifier.specs.declared.fold.Arm.{Arm}
 use Rattle.atom_simplifier.specs.declared.fold.Arm.the-variants as arm
 use Rattle.atom_simplifier.specs.declared.local.Local.{Local}
-use Rattle.atom_simplifier.specs.declared.local.Local.the-variants.{Nothing, Part, Constant, Join, DeMorgan}
+use Rattle.atom_simplifier.specs.declared.local.Local.the-variants.{Nothing, Part, Constant, Join}
 use Rattle.atom_simplifier.specs.Contracts.{constantOption, armTree, bitwiseOf, IsBitwise, Within, Makes, Decides, DecidesAt}
 use Rattle.atom_simplifier.proofs.DecideLaws.{is-rewrite, decides-none, decides-some, none-decided, some-decided, part-holds, left-within, right-within}
 use Rattle.atom_simplifier.proofs.OperandLaws.{number-bitwise}

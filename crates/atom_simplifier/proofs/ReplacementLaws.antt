@@ -1,20 +1,20 @@
 -- What a decision makes is what its words say. Assumes nothing.
 use mathlib.Core.Path.{_≡_, refl, sym, ap, ap₂, subst, _∙_}
-use mathlib.Core.List.{List, [], _∷_, _++_, append-nil}
-use Prim.Native.Nat.{ℕ, _+_, _*_, _-_, _^_, _≤_, _<_}
+use mathlib.Core.List.{List, [], _∷_, _++_}
+use Prim.Native.Nat.{ℕ, _+_, _*_, _-_, _≤_, _<_}
 use native.Mathlib.Omega.{arith}
 use lib.ListN.{length, take, drop, getD, length-append, length-drop}
 use lib.Seq.{take-at, drop-at, length-take-le}
 use mir.Syntax.{w64}
 use mir.Val.{Fits}
-use Rattle.expr.specs.Expr.{Expr, binary, binaryNumber, encode}
+use Rattle.expr.specs.Expr.{Expr, binaryNumber, encode}
 use Rattle.expr.specs.ExprLaws.{nodes-pos, length-encode}
 use Rattle.expr.specs.TailLaws.{tail-drop}
 use Rattle.expr.specs.PartLaws.{part}
 use Rattle.rewriting.specs.AtomSimplifier.{constant, not}
 use Rattle.atom_simplifier.specs.declared.local.Local.{Local}
 use Rattle.atom_simplifier.specs.declared.local.Local.the-variants.{Nothing, Part, Constant, Join, DeMorgan}
-use Rattle.atom_simplifier.specs.Contracts.{Within, Holds, Joined, dualNumber, Turns, Makes, copied, Laid, Writable, Writes}
+use Rattle.atom_simplifier.specs.Contracts.{Holds, Joined, dualNumber, Turns, Makes, copied, Laid, Writable, Writes}
 
 -- ---- a part
 

@@ -3,9 +3,9 @@ use mathlib.Core.Path.{_≡_, refl, sym, ap, ap₂, subst, _∙_}
 use mathlib.Core.Logic.{⊎-elim}
 use mathlib.Core.List.{List, [], _∷_, _++_, append-assoc}
 use mathlib.Core.Option.{Option, none, some}
-use Prim.Native.Nat.{ℕ, suc, _+_, _*_, _-_, _^_, _≤_, _<_}
+use Prim.Native.Nat.{ℕ, suc, _+_, _*_, _-_, _≤_, _<_}
 use native.Mathlib.Omega.{arith}
-use lib.ListN.{length, take, drop, getD, set, length-append, length-take, length-set, take-append-drop}
+use lib.ListN.{length, take, drop, getD, set, length-append, length-take, take-append-drop}
 use lib.Seq.{drop-drop, length-take-le}
 use mir.Syntax.{w64}
 use mir.Val.{Fits}
@@ -16,26 +16,25 @@ use Rattle.expr.specs.declared.refusal.Refusal.{Refusal}
 use Rattle.expr.specs.declared.Arity.{Arity}
 use Rattle.expr.specs.declared.Arity.the-variants as arity
 use Rattle.expr.specs.Outcome.{accepted}
-use Rattle.expr.specs.Expr.{Unary, Binary, Expr, leaf, unary, binary, encode, nodes, depth}
-use Rattle.expr.specs.ExprLaws.{nodes-pos, depth-pos, depth-nodes, length-encode}
+use Rattle.expr.specs.Expr.{Expr, unary, binary, encode, depth}
+use Rattle.expr.specs.ExprLaws.{depth-pos, depth-nodes, length-encode}
 use Rattle.expr.specs.Parse.{arityOf}
 use Rattle.expr.specs.Answers.{arityOutcome}
 use Rattle.expr.specs.TailLaws.{tail, tail-drop, length-tail}
-use Rattle.expr.specs.Front.{Front, Starts, Exactly, Whole, treeAt, leftOf, rightOf}
-use Rattle.expr.specs.FrontLaws.{LeafNode, UnaryNode, BinaryNode, leaf-node, unary-node, binary-node, has-node, has-kind, child-starts, left-starts, no-kind, parse-front}
+use Rattle.expr.specs.Front.{Front, Starts, Whole, treeAt, leftOf}
+use Rattle.expr.specs.FrontLaws.{LeafNode, UnaryNode, BinaryNode, leaf-node, unary-node, binary-node, has-node, has-kind, child-starts, left-starts, no-kind}
 use Rattle.expr.specs.PartLaws.{part, front-tree, front-part, starts-front, exact-tree, exact-whole}
 use Rattle.rewriting.specs.Optional.{map, _orElse_}
 use Rattle.rewriting.specs.AtomSimplifier as def
 use Rattle.rewriting.specs.AtomSimplifier.{localRewrite, here, below, firstSite}
-use Rattle.rewriting.specs.SiteLaws.{IsSite, first-site}
+use Rattle.rewriting.specs.SiteLaws.{first-site}
 use Rattle.atom_simplifier.specs.declared.local.Local.{Local}
 use Rattle.atom_simplifier.specs.declared.local.Local.the-variants.{Nothing, Part, Constant, Join, DeMorgan}
 use Rattle.atom_simplifier.specs.declared.search.Site.{Site}
 use Rattle.atom_simplifier.specs.declared.search.Search.{Search}
 use Rattle.atom_simplifier.specs.declared.search.Search.the-variants.{None, Found}
-use Rattle.atom_simplifier.specs.Contracts.{Within, Makes, Meaning, Decides, Laid, atRoot, underParent, IsFound, SearchIs, Searched}
+use Rattle.atom_simplifier.specs.Contracts.{Within, Makes, Meaning, Decides, atRoot, underParent, IsFound, SearchIs, Searched}
 use Rattle.atom_simplifier.proofs.local.Local.{the-type}
-use Rattle.atom_simplifier.proofs.DecideLaws.{none-decided, some-decided, part-within}
 use Rattle.atom_simplifier.proofs.LocalLaws.{first-word}
 use Rattle.atom_simplifier.proofs.WriteLaws.{put-tail}
 

@@ -3,7 +3,6 @@ ghost use mathlib.Core.Path.{_≡_};
 ghost use mathlib.Core.List.{[], _∷_, _++_};
 ghost use Prim.Native.Nat.{_+_, _≤_, _<_};
 ghost use lib.ListN.{length, getD};
-ghost use Rattle.expr.specs.TailLaws.{tail};
 ghost use Rattle.expr.specs.PartLaws.{part};
 ghost use Rattle.atom_simplifier.specs.Contracts.{copied, dualNumber, Laid, Writable, Writes};
 use crate::local::Local;

@@ -3,11 +3,10 @@ use mathlib.Core.Path.{_≡_, refl, sym, ap, subst, _∙_}
 use mathlib.Core.List.{List, [], _∷_, _++_, append-nil}
 use Prim.Native.Nat.{ℕ, _+_, _*_, _-_, _≤_, _<_}
 use native.Mathlib.Omega.{arith}
-use lib.Dec.{T}
 use lib.ListN.{length, take, drop, getD, length-append}
 use lib.Seq.{take-at, drop-at}
 use mir.Facts.{and-yes}
-use Rattle.expr.specs.Outcome.{Outcome, accepted}
+use Rattle.expr.specs.Outcome.{accepted}
 use Rattle.expr.specs.Expr.{Leaf, Unary, Binary, Expr, leaf, unary, binary, leafNumber, leafOperand, unaryNumber, unaryOperand, binaryNumber, encode, nodes, depth}
 use Rattle.expr.specs.ExprLaws.{nodes-pos, depth-nodes, length-encode}
 use Rattle.expr.specs.Parse.{Kind, none, one, two, arity, arityOf, operandOk, operandsOk, subtree}

@@ -1,4 +1,4 @@
--- `admit` meets its contract. Assumes nothing.
+-- `atom_simplifier::admit` meets its contract. Assumes nothing.
 use borrow.Author.Needs.{needs}
 use Rattle.atom_simplifier.proofs.CallLaws.{admitting}
 use Rattle.atom_simplifier.proofs.admit.Statement.{statement}

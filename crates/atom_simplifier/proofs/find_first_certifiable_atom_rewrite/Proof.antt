@@ -1,4 +1,4 @@
--- `find_first_certifiable_atom_rewrite` meets its contract. Assumes nothing.
+-- `atom_simplifier::find_first_certifiable_atom_rewrite` meets its contract. Assumes nothing.
 use borrow.Author.Needs.{needs}
 use Rattle.atom_simplifier.proofs.CallLaws.{siteCall}
 use Rattle.atom_simplifier.proofs.find_first_certifiable_atom_rewrite.Statement.{statement}

@@ -1,4 +1,4 @@
--- `local_certifiable_atom_rewrite` meets its contract. Assumes nothing.
+-- `atom_simplifier::local_certifiable_atom_rewrite` meets its contract. Assumes nothing.
 use borrow.Author.Needs.{needs}
 use Rattle.atom_simplifier.proofs.CallLaws.{localCall}
 use Rattle.atom_simplifier.proofs.local_certifiable_atom_rewrite.Statement.{statement}

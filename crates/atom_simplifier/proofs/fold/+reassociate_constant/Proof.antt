@@ -1,4 +1,4 @@
--- `reassociate_constant` meets its contract. The measure is the number of words left. Assumes nothing.
+-- `atom_simplifier::fold::reassociate_constant` meets its contract. The measure is the number of words left. Assumes nothing.
 use Prim.Native.Nat.{ℕ, _<_}
 use lib.ListN.{length}
 use borrow.Author.Needs.{needs}

@@ -1,4 +1,4 @@
--- `and_constants` meets its contract. Assumes nothing.
+-- `atom_simplifier::fold::and_constants` meets its contract. Assumes nothing.
 use borrow.Author.Needs.{needs}
 use Rattle.atom_simplifier.proofs.ArmLaws.{arm}
 use Rattle.atom_simplifier.proofs.fold.and_constants.Statement.{statement}

@@ -1,4 +1,4 @@
--- `are_complements` meets its contract. Assumes nothing.
+-- `atom_simplifier::fold::are_complements` meets its contract. Assumes nothing.
 use borrow.Author.Needs.{needs}
 use Rattle.atom_simplifier.proofs.OperandLaws.{operand}
 use Rattle.atom_simplifier.proofs.fold.are_complements.Statement.{statement}

@@ -1,4 +1,4 @@
--- `constant_val` meets its contract. Assumes nothing.
+-- `atom_simplifier::fold::constant_val` meets its contract. Assumes nothing.
 use borrow.Author.Needs.{needs}
 use Rattle.atom_simplifier.proofs.OperandLaws.{operand}
 use Rattle.atom_simplifier.proofs.fold.constant_val.Statement.{statement}

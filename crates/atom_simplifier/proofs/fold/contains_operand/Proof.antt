@@ -1,4 +1,4 @@
--- `contains_operand` meets its contract. Assumes nothing.
+-- `atom_simplifier::fold::contains_operand` meets its contract. Assumes nothing.
 use borrow.Author.Needs.{needs}
 use Rattle.atom_simplifier.proofs.OperandLaws.{operand}
 use Rattle.atom_simplifier.proofs.fold.contains_operand.Statement.{statement}

@@ -1,4 +1,4 @@
--- `either_constant` meets its contract. Assumes nothing.
+-- `atom_simplifier::fold::either_constant` meets its contract. Assumes nothing.
 use borrow.Author.Needs.{needs}
 use Rattle.atom_simplifier.proofs.OperandLaws.{operand}
 use Rattle.atom_simplifier.proofs.fold.either_constant.Statement.{statement}

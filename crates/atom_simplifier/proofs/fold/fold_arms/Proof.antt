@@ -1,4 +1,4 @@
--- `fold_arms` meets its contract. Assumes nothing.
+-- `atom_simplifier::fold::fold_arms` meets its contract. Assumes nothing.
 use borrow.Author.Needs.{needs}
 use Rattle.atom_simplifier.proofs.ArmLaws.{arm}
 use Rattle.atom_simplifier.proofs.fold.fold_arms.Statement.{statement}

@@ -1,4 +1,4 @@
--- `fold_constant` meets its contract. Assumes nothing.
+-- `atom_simplifier::fold::fold_constant` meets its contract. Assumes nothing.
 use borrow.Author.Needs.{needs}
 use Rattle.atom_simplifier.proofs.ReassociateLaws.{folded}
 use Rattle.atom_simplifier.proofs.fold.fold_constant.Statement.{statement}

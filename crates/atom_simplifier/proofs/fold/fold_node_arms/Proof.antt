@@ -1,4 +1,4 @@
--- `fold_node_arms` meets its contract. Assumes nothing.
+-- `atom_simplifier::fold::fold_node_arms` meets its contract. Assumes nothing.
 use borrow.Author.Needs.{needs}
 use Rattle.atom_simplifier.proofs.NodeFoldLaws.{nodeFold}
 use Rattle.atom_simplifier.proofs.fold.fold_node_arms.Statement.{statement}

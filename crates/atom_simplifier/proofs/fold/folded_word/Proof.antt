@@ -1,4 +1,4 @@
--- `folded_word` meets its contract. Assumes nothing.
+-- `atom_simplifier::fold::folded_word` meets its contract. Assumes nothing.
 use borrow.Author.Needs.{needs}
 use Rattle.atom_simplifier.proofs.ArmLaws.{arm}
 use Rattle.atom_simplifier.proofs.fold.folded_word.Statement.{statement}

@@ -1,4 +1,4 @@
--- `is_not_of` meets its contract. Assumes nothing.
+-- `atom_simplifier::fold::is_not_of` meets its contract. Assumes nothing.
 use borrow.Author.Needs.{needs}
 use Rattle.atom_simplifier.proofs.OperandLaws.{operand}
 use Rattle.atom_simplifier.proofs.fold.is_not_of.Statement.{statement}

@@ -1,4 +1,4 @@
--- `or_arms` meets its contract. Assumes nothing.
+-- `atom_simplifier::fold::or_arms` meets its contract. Assumes nothing.
 use borrow.Author.Needs.{needs}
 use Rattle.atom_simplifier.proofs.ArmLaws.{arm}
 use Rattle.atom_simplifier.proofs.fold.or_arms.Statement.{statement}

@@ -1,4 +1,4 @@
--- `reassociate_beside` meets its contract. Assumes nothing.
+-- `atom_simplifier::fold::reassociate_beside` meets its contract. Assumes nothing.
 use borrow.Author.Needs.{needs}
 use Rattle.atom_simplifier.proofs.NodeFoldLaws.{nodeFold}
 use Rattle.atom_simplifier.proofs.fold.reassociate_beside.Statement.{statement}

@@ -1,4 +1,4 @@
--- `right_at` meets its contract. Assumes nothing.
+-- `atom_simplifier::fold::right_at` meets its contract. Assumes nothing.
 use borrow.Author.Needs.{needs}
 use Rattle.atom_simplifier.proofs.OperandLaws.{operand}
 use Rattle.atom_simplifier.proofs.fold.right_at.Statement.{statement}

@@ -1,4 +1,4 @@
--- `same_part` meets its contract. Assumes nothing.
+-- `atom_simplifier::fold::same_part` meets its contract. Assumes nothing.
 use borrow.Author.Needs.{needs}
 use Rattle.atom_simplifier.proofs.OperandLaws.{operand}
 use Rattle.atom_simplifier.proofs.fold.same_part.Statement.{statement}

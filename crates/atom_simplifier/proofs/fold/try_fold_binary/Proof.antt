@@ -1,4 +1,4 @@
--- `try_fold_binary` meets its contract. Assumes nothing.
+-- `atom_simplifier::fold::try_fold_binary` meets its contract. Assumes nothing.
 use borrow.Author.Needs.{needs}
 use Rattle.atom_simplifier.proofs.NodeFoldLaws.{nodeFold}
 use Rattle.atom_simplifier.proofs.fold.try_fold_binary.Statement.{statement}

@@ -1,4 +1,4 @@
--- `xor_constants` meets its contract. Assumes nothing.
+-- `atom_simplifier::fold::xor_constants` meets its contract. Assumes nothing.
 use borrow.Author.Needs.{needs}
 use Rattle.atom_simplifier.proofs.ArmLaws.{arm}
 use Rattle.atom_simplifier.proofs.fold.xor_constants.Statement.{statement}

@@ -1,4 +1,4 @@
--- `de_morgan` meets its contract. Assumes nothing.
+-- `atom_simplifier::local::de_morgan` meets its contract. Assumes nothing.
 use borrow.Author.Needs.{needs}
 use Rattle.atom_simplifier.proofs.LocalLaws.{localRule}
 use Rattle.atom_simplifier.proofs.local.de_morgan.Statement.{statement}

@@ -1,4 +1,4 @@
--- `not_rewrite` meets its contract. Assumes nothing.
+-- `atom_simplifier::local::not_rewrite` meets its contract. Assumes nothing.
 use borrow.Author.Needs.{needs}
 use Rattle.atom_simplifier.proofs.LocalLaws.{localRule}
 use Rattle.atom_simplifier.proofs.local.not_rewrite.Statement.{statement}

@@ -1,4 +1,4 @@
--- `or_rewrite` meets its contract. Assumes nothing.
+-- `atom_simplifier::local::or_rewrite` meets its contract. Assumes nothing.
 use borrow.Author.Needs.{needs}
 use Rattle.atom_simplifier.proofs.LocalLaws.{localRule}
 use Rattle.atom_simplifier.proofs.local.or_rewrite.Statement.{statement}

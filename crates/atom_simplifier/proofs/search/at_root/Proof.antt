@@ -1,4 +1,4 @@
--- `at_root` meets its contract. Assumes nothing.
+-- `atom_simplifier::search::at_root` meets its contract. Assumes nothing.
 use borrow.Author.Needs.{needs}
 use Rattle.atom_simplifier.proofs.SearchLaws.{rooting}
 use Rattle.atom_simplifier.proofs.search.at_root.Statement.{statement}

@@ -1,4 +1,4 @@
--- `copy` meets its contract. The measure is what is left of the part. Assumes nothing.
+-- `atom_simplifier::write::copy` meets its contract. The measure is what is left of the part. Assumes nothing.
 use Prim.Native.Nat.{_-_}
 use lib.ListN.{length}
 use borrow.Author.Needs.{needs}

@@ -1,4 +1,4 @@
--- `dual` meets its contract. Assumes nothing.
+-- `atom_simplifier::write::dual` meets its contract. Assumes nothing.
 use borrow.Author.Needs.{needs}
 use Rattle.atom_simplifier.proofs.WriteLaws.{writing}
 use Rattle.atom_simplifier.proofs.write.dual.Statement.{statement}

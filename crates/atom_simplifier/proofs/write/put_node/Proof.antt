@@ -1,4 +1,4 @@
--- `put_node` meets its contract. Assumes nothing.
+-- `atom_simplifier::write::put_node` meets its contract. Assumes nothing.
 use borrow.Author.Needs.{needs}
 use Rattle.atom_simplifier.proofs.WriteLaws.{writing}
 use Rattle.atom_simplifier.proofs.write.put_node.Statement.{statement}

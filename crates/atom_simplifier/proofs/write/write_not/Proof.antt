@@ -1,4 +1,4 @@
--- `write_not` meets its contract. Assumes nothing.
+-- `atom_simplifier::write::write_not` meets its contract. Assumes nothing.
 use borrow.Author.Needs.{needs}
 use Rattle.atom_simplifier.proofs.WriteLaws.{writing}
 use Rattle.atom_simplifier.proofs.write.write_not.Statement.{statement}

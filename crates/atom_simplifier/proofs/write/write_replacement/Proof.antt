@@ -1,4 +1,4 @@
--- `write_replacement` meets its contract. Assumes nothing.
+-- `atom_simplifier::write::write_replacement` meets its contract. Assumes nothing.
 use borrow.Author.Needs.{needs}
 use Rattle.atom_simplifier.proofs.ReplacementLaws.{replacing}
 use Rattle.atom_simplifier.proofs.write.write_replacement.Statement.{statement}
