@@ -1,7 +1,7 @@
 -- The local rewrite of a node, from its words. Assumes nothing.
 use mathlib.Core.Path.{_≡_, refl, sym, ap, ap₂, subst, _∙_}
 use mathlib.Core.Bool.{Bool, true, false, not, _||_}
-use mathlib.Core.List.{List, [], _∷_, _++_}
+use mathlib.Core.List.{List, [], _∷_, _++_, append-nil}
 use mathlib.Core.Option.{Option, none, some}
 use Prim.Native.Nat.{ℕ, _+_, _-_, _≤_, _<_}
 use native.Mathlib.Omega.{arith}
@@ -36,6 +36,19 @@ use Rattle.atom_simplifier.proofs.OperandLaws.{number-not, number-bitwi
 
 -- ---- a node with one child
 
+-- the rule of a kind with one child, by the kind's number and its operand
+abbrev byNumber : ℕ → ℕ → Expr → Option Expr
+byNumber k o t = if eqb k 7 then notRewrite t else if eqb k 9 then onlyIf (eqb o 0) t else none
+
+unary-by : (k : Unary) (t : Expr) → unaryRewrite k t ≡ byNumber (unaryNumber k) (unaryOperand k) t
+unfolding unaryRewrite
+unary-by Not t = refl
+unary-by Neg t = refl
+unary-by (Shr k) t = refl
+unary-by (ZExt n) t = refl
+unary-by (SExt n) t = refl
+unary-by (Trunc n) t = refl
+
 -- the child's words, from place 2 on
 module _ (node : List ℕ) (t : Expr) (x : Exactly node t) (a : arityOf (getD node 0 0) ≡ accepted 1) where
   n : OneChild node t
@@ -59,77 +72,40 @@ module _ (node : List ℕ) (t : Expr) (x : Exactly node t) (a : arityOf (getD no
 
   child-holds : Holds node 2 (length node - 2) (leftOf t)
   child-holds =
-      let e : length (tail 2 node) ≡ length node - 2 = length-tail 2 node in
-      let w : tail 2 node ≡ encode (leftOf t) = n .below .words in
-      let p = part-within node node 0 (all-within node) (getD node 0 0 ∷ getD node 1 0 ∷ []) (encode (leftOf t)) [] in
-      subst (λ (i : ℕ). Holds node 2 i (leftOf t)) (sym (ap length w) ∙ e)
-      (record { within = p (unary-words ∙ ap (λ (l : List ℕ). getD node 0 0 ∷ getD node 1 0 ∷ l) (nil (encode (leftOf t)))); words = refl })
-    where
-      nil : (xs : List ℕ) → xs ≡ xs ++ []
-      nil [] = refl
-      nil (y ∷ ys) = ap (λ (l : List ℕ). y ∷ l) (nil ys)
+      let behind : node ≡ getD node 0 0 ∷ getD node 1 0 ∷ (encode (leftOf t) ++ []) =
+      unary-words ∙ ap (λ (l : List ℕ). getD node 0 0 ∷ getD node 1 0 ∷ l) (sym (append-nil (encode (leftOf t))))
+      in
+      record {
+        within = part-within node node 0 (all-within node) (getD node 0 0 ∷ getD node 1 0 ∷ []) (encode (leftOf t)) [] behind;
+        words = omega (arith, unary-length);
+      }
 
-  root-is : (w : ℕ) → localRewrite w t ≡ unaryRewrite (n .kind) (leftOf t)
+  -- the rule by the two words
+  by-words : (w : ℕ) → localRewrite w t ≡ byNumber (getD node 0 0) (getD node 1 0) (leftOf t)
   unfolding localRewrite
-  root-is w = ap (localRewrite w) (n .is)
-
-shr-zero : (k : Unary) (t : Expr) → unaryNumber k ≡ 9 → unaryOperand k ≡ 0 → unaryRewrite k t ≡ some t
-unfolding unaryRewrite
-shr-zero Not t e o = absurd (omega arith)
-shr-zero Neg t e o = absurd (omega arith)
-shr-zero (Shr k) t e o = ap (λ (b : Bool). onlyIf b t) (eq-eqb k 0 o)
-shr-zero (ZExt n) t e o = absurd (omega arith)
-shr-zero (SExt n) t e o = absurd (omega arith)
-shr-zero (Trunc n) t e o = absurd (omega arith)
-
-shr-other : (k : Unary) (t : Expr) → (unaryNumber k ≡ 7 → ⊥) → (unaryOperand k ≡ 0 → ⊥) → unaryRewrite k t ≡ none
-unfolding unaryRewrite
-shr-other Not t e o = absurd (e refl)
-shr-other Neg t e o = refl
-shr-other (Shr k) t e o = ap (λ (b : Bool). onlyIf b t) (ne-eqb k 0 o)
-shr-other (ZExt n) t e o = refl
-shr-other (SExt n) t e o = refl
-shr-other (Trunc n) t e o = refl
-
-no-rule : (k : Unary) (t : Expr) → (unaryNumber k ≡ 7 → ⊥) → (unaryNumber k ≡ 9 → ⊥) → unaryRewrite k t ≡ none
-unfolding unaryRewrite
-no-rule Not t e f = absurd (e refl)
-no-rule Neg t e f = refl
-no-rule (Shr k) t e f = absurd (f refl)
-no-rule (ZExt n) t e f = refl
-no-rule (SExt n) t e f = refl
-no-rule (Trunc n) t e f = refl
-
-not-rule : (k : Unary) (t : Expr) → unaryNumber k ≡ 7 → unaryRewrite k t ≡ notRewrite t
-unfolding unaryRewrite
-not-rule Not t e = refl
-not-rule Neg t e = absurd (omega arith)
-not-rule (Shr k) t e = absurd (omega arith)
-not-rule (ZExt n) t e = absurd (omega arith)
-not-rule (SExt n) t e = absurd (omega arith)
-not-rule (Trunc n) t e = absurd (omega arith)
+  by-words w =
+      ap (localRewrite w) (n .is) ∙ unary-by (n .kind) (leftOf t)
+      ∙ ap₂ (λ (k o : ℕ). byNumber k o (leftOf t)) (sym (n .number-is)) (sym (n .operand-is))
 
 module _ (node : List ℕ) (t : Expr) (x : Exactly node t) (a : arityOf (getD node 0 0) ≡ accepted 1) (w : ℕ) where
-  number-is : getD node 0 0 ≡ unaryNumber (n node t x a .kind)
-  number-is = n node t x a .number-is
-
   pub not-decides : (r : Local) → getD node 0 0 ≡ 7 → Decides node r (notRewrite (leftOf t)) → Decides node r (localRewrite w t)
-  not-decides r e d = subst (Decides node r) (sym (root-is node t x a w ∙ not-rule (n node t x a .kind) (leftOf t) (sym number-is ∙ e))) d
+  not-decides r e d = subst (Decides node r) (sym (by-words node t x a w ∙ simp (eq-eqb (getD node 0 0) 7 e))) d
 
   module _ (e : getD node 0 0 ≡ 7 → ⊥) where
     pub other-stays : (getD node 0 0 ≡ 9 → ⊥) → Decides node local.Nothing (localRewrite w t)
-    other-stays f = decides-none node local.Nothing _ (root-is node t x a w ∙ no-rule (n node t x a .kind) (leftOf t) (λ g. e (number-is ∙ g)) (λ g. f (number-is ∙ g))) refl
+    other-stays f = decides-none node local.Nothing _ (by-words node t x a w ∙ simp (ne-eqb (getD node 0 0) 7 e, ne-eqb (getD node 0 0) 9 f)) refl
 
-    pub shift-stays : (getD node 1 0 ≡ 0 → ⊥) → Decides node local.Nothing (localRewrite w t)
-    shift-stays f =
-        decides-none node local.Nothing _
-        (root-is node t x a w ∙ shr-other (n node t x a .kind) (leftOf t) (λ g. e (number-is ∙ g)) (λ g. f (n node t x a .operand-is ∙ g))) refl
+    module _ (f : getD node 0 0 ≡ 9) where
+      pub shift-stays : (getD node 1 0 ≡ 0 → ⊥) → Decides node local.Nothing (localRewrite w t)
+      shift-stays g =
+          decides-none node local.Nothing _
+          (by-words node t x a w ∙ simp (ne-eqb (getD node 0 0) 7 e, eq-eqb (getD node 0 0) 9 f, ne-eqb (getD node 1 0) 0 g)) refl
 
-  pub shift-goes : getD node 0 0 ≡ 9 → getD node 1 0 ≡ 0 → Decides node (local.Part 2 (length node - 2)) (localRewrite w t)
-  unfolding Makes
-  shift-goes e f =
-      decides-some node (local.Part 2 (length node - 2)) _ (leftOf t)
-      (root-is node t x a w ∙ shr-zero (n node t x a .kind) (leftOf t) (sym number-is ∙ e) (sym (n node t x a .operand-is) ∙ f)) (child-holds node t x a)
+      pub shift-goes : getD node 1 0 ≡ 0 → Decides node (local.Part 2 (length node - 2)) (localRewrite w t)
+      unfolding Makes
+      shift-goes g =
+          decides-some node (local.Part 2 (length node - 2)) _ (leftOf t)
+          (by-words node t x a w ∙ simp (ne-eqb (getD node 0 0) 7 e, eq-eqb (getD node 0 0) 9 f, eq-eqb (getD node 1 0) 0 g)) (child-holds node t x a)
 
 -- ---- `not_rewrite`
 
