@@ -1,8 +1,6 @@
 // The answer to a request, by the function that it names.
 use crate::arithmetic;
 use crate::costs;
-use crate::text;
-use crate::text::MOST_WORDS;
 use crate::trees;
 use crate::values;
 use crate::widths;
@@ -11,6 +9,8 @@ use expr::Counted;
 use expr::Verdict;
 use expr::refusal::Refusal;
 use expr_cost::CostInfo;
+use requests::text;
+use requests::text::MOST_WORDS;
 
 pub(crate) enum Answer {
     Value(u64),

@@ -1,7 +1,7 @@
 // Requests to `arith`.
 use crate::answer::Answer;
-use crate::text;
 use check::same;
+use requests::text;
 
 // On a width alone; then on one word and a width, and on two words and a width.
 fn of_width(name: &[u8], width: u32) -> Answer {

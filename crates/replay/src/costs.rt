@@ -1,8 +1,8 @@
 // Requests to `expr_cost`.
 use crate::answer::Answer;
-use crate::text;
 use expr_cost::CostAnswer;
 use expr_cost::ExprCost;
+use requests::text;
 
 // Whether a text is the three numbers of a cost, and the cost.
 struct ReadCost {

@@ -1,10 +1,10 @@
 // Requests to `expr`.
 use crate::answer;
 use crate::answer::Answer;
-use crate::text;
-use crate::text::MOST_WORDS;
 use check::same;
 use expr::Arity;
+use requests::text;
+use requests::text::MOST_WORDS;
 
 // A kind word alone.
 fn of_kind(words: &[u64]) -> Answer {

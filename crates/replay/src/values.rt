@@ -1,8 +1,8 @@
 // Requests to `value`.
 use crate::answer;
 use crate::answer::Answer;
-use crate::text;
-use crate::text::MOST_WORDS;
+use requests::text;
+use requests::text::MOST_WORDS;
 use value::ValueAnswer;
 
 fn of_value(answer: ValueAnswer) -> Answer {

@@ -1,6 +1,6 @@
 -- `replay::replay` is safe and ends: a line's place and end lie within the input. Assumes nothing.
 use mathlib.Core.Path.{_≡_}
-use Prim.Native.Nat.{_≤_, _<_, _-_}
+use Prim.Native.Nat.{_≤_, _-_}
 use borrow.Author.Needs.{needs}
 use lib.ListN.{length}
 use Rattle.replay.proofs.replay.Statement.{statement}
@@ -8,7 +8,7 @@ use Rattle.replay.proofs.replay.Tie as tie
 
 abbrev Inv-loop : tie.InvT-loop
 Inv-loop input out₀ have₀ at₀ end₀ t6 out have at end =
-    (length out ≡ 65536) × (have < length out) × (at ≤ end) × (end ≤ length input)
+    (length out ≡ 65536) × (at ≤ end) × (end ≤ length input)
 
 abbrev μ-loop : tie.MeasureT-loop
 μ-loop input out₀ have₀ at₀ end₀ t6 out have at end = length input - end
@@ -29,8 +29,6 @@ replay-spec =
     (λ c κs. search needs)
     (λ c. search needs)
     (λ c κs. search needs)
-    (λ c. search needs)
-    (λ c. search needs)
     (λ c. search needs)
     (λ c. search needs)
     (λ c. search needs)

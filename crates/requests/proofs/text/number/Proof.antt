@@ -1,9 +1,9 @@
--- `replay::text::number` is safe and ends. Assumes nothing.
+-- `requests::text::number` is safe and ends. Assumes nothing.
 use Prim.Native.Nat.{_≤_, _-_}
 use borrow.Author.Needs.{needs}
 use lib.ListN.{length}
-use Rattle.replay.proofs.text.number.Statement.{statement}
-use Rattle.replay.proofs.text.number.Tie as tie
+use Rattle.requests.proofs.text.number.Statement.{statement}
+use Rattle.requests.proofs.text.number.Tie as tie
 
 abbrev Inv-loop : tie.InvT-loop
 Inv-loop digits n₀ i₀ n i = i ≤ length digits

@@ -1,13 +1,13 @@
 // The fields of a line, and the numbers that they stand for.
 ghost use mathlib.Core.Path.{_≡_};
-ghost use Prim.Native.Nat.{_≤_};
+ghost use Prim.Native.Nat.{_≤_, max};
 ghost use lib.ListN.{length};
 
 // More than the 1,024 words that a tree may have, so that a request can have too many of them.
-pub(crate) const MOST_WORDS: usize = 1100;
+pub const MOST_WORDS: usize = 1100;
 
 // A width has 32 bits.
-pub(crate) const LARGEST_WIDTH: u64 = 0xffff_ffff;
+pub const LARGEST_WIDTH: u64 = 0xffff_ffff;
 
 enum Field {
     Number(u64),
@@ -15,22 +15,21 @@ enum Field {
 }
 
 // Whether a text is a list, and how many of its words were read.
-pub(crate) struct Listed {
+pub struct Listed {
     pub good: bool,
     pub count: usize,
 }
 
 // Whether more lists follow the first one of a text, where it ends, and where the text of the next ones begins.
-pub(crate) struct Split {
+pub struct Split {
     pub more: bool,
     pub end: usize,
     pub next: usize,
 }
 
-// The first place from `from` on where `byte` stands; the length where there is none.
-pub(crate) fn find(s: &[u8], from: usize, byte: u8) -> usize
-    requires { ⌜ from ≤ length (now s) ⌝ }
-    ensures { λ r. ⌜ (from ≤ r) × (r ≤ length (now (s .entry))) ⌝ }
+// The first place from `from` on where `byte` stands; where there is none, the length, or `from` if that is more.
+pub fn find(s: &[u8], from: usize, byte: u8) -> usize
+    ensures { λ r. ⌜ (from ≤ r) × (r ≤ max from (length (now (s .entry)))) ⌝ }
 {
     let mut i = from;
     while i < s.len() {
@@ -73,7 +72,7 @@ fn number(digits: &[u8]) -> Field {
 }
 
 // Puts the words of a list at the front of `words`. In its text a space stands before each of them.
-pub(crate) fn words_in(list: &[u8], words: &mut [u64]) -> Listed
+pub fn words_in(list: &[u8], words: &mut [u64]) -> Listed
     ensures { λ r. ⌜ r .count ≤ length (now (words .entry)) ⌝ }
 {
     let mut count = 0;
@@ -117,7 +116,7 @@ fn narrowed(words: &[u64], widths: &mut [u32]) -> Listed
 }
 
 // As `words_in`, for numbers of 32 bits.
-pub(crate) fn u32s_in(list: &[u8], widths: &mut [u32]) -> Listed
+pub fn u32s_in(list: &[u8], widths: &mut [u32]) -> Listed
     ensures { λ r. ⌜ r .count ≤ length (now (widths .entry)) ⌝ }
 {
     let mut words = [0u64; MOST_WORDS];
@@ -144,7 +143,7 @@ fn unsplit(end: usize) -> Split
 }
 
 // A list ends where ` /` stands. A `/` without the space is left in it, where it is no number.
-pub(crate) fn first_list(lists: &[u8]) -> Split
+pub fn first_list(lists: &[u8]) -> Split
     ensures { λ r. ⌜ (r .end ≤ length (now (lists .entry))) × (r .next ≤ length (now (lists .entry))) ⌝ }
 {
     let slash = find(lists, 0, b'/');

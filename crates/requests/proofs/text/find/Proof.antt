@@ -1,12 +1,12 @@
--- `replay::text::find` meets its contract. Assumes nothing.
-use Prim.Native.Nat.{_≤_, _-_}
+-- `requests::text::find` meets its contract. Assumes nothing.
+use Prim.Native.Nat.{_≤_, _-_, max}
 use borrow.Author.Needs.{needs}
 use lib.ListN.{length}
-use Rattle.replay.proofs.text.find.Statement.{statement}
-use Rattle.replay.proofs.text.find.Tie as tie
+use Rattle.requests.proofs.text.find.Statement.{statement}
+use Rattle.requests.proofs.text.find.Tie as tie
 
 abbrev Inv-loop : tie.InvT-loop
-Inv-loop s from byte i₀ i = (from ≤ i) × (i ≤ length s)
+Inv-loop s from byte i₀ i = (from ≤ i) × (i ≤ max from (length s))
 
 abbrev μ-loop : tie.MeasureT-loop
 μ-loop s from byte i₀ i = length s - i

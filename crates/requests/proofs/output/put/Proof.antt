@@ -1,0 +1,28 @@
+-- `requests::output::put` is safe and ends. Assumes nothing.
+use mathlib.Core.Path.{_≡_}
+use Prim.Native.Nat.{_≤_, _-_}
+use borrow.Author.Needs.{needs}
+use lib.ListN.{length}
+use Rattle.requests.proofs.output.put.Statement.{statement}
+use Rattle.requests.proofs.output.put.Tie as tie
+
+abbrev Inv-loop : tie.InvT-loop
+Inv-loop out₀ have bytes waiting₀ i₀ out waiting i = (length out ≡ length out₀) × (i ≤ length bytes)
+
+abbrev μ-loop : tie.MeasureT-loop
+μ-loop out₀ have bytes waiting₀ i₀ out waiting i = length bytes - i
+
+pub put-spec : {M : Type 1} → statement M
+put-spec =
+    tie.close
+    (tie.spec
+    Inv-loop
+    μ-loop
+    (λ c. search needs)
+    (λ c. search needs)
+    (λ c. search needs)
+    (λ c. search needs)
+    (λ c. search needs)
+    (λ c. search needs)
+    (λ c. search needs)
+    (λ c. search needs))

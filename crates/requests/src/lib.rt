@@ -1,0 +1,14 @@
+// What the test programs share: requests as text, and text to standard output. Nothing here is asked of a caller, so that a program
+// proves no more than its own places.
+ghost use mathlib.Core.Path.{_≡_};
+ghost use lib.ListN.{length};
+
+pub mod output;
+pub mod text;
+
+// Zeros for all of a program's input. The `ensures` gives only the length, which lending the array as a slice needs.
+pub fn input_buffer() -> [u8; 2097152]
+    ensures { λ r. ⌜ 2097152 ≡ length r ⌝ }
+{
+    [0; 2097152]
+}
