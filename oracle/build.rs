@@ -1,27 +1,66 @@
-//! Writes OUT_DIR/core.rs, which names the original files where they stand, so that rustc reads them unchanged.
-use std::{env, fs, path::Path};
+//! Writes OUT_DIR/core.rs and OUT_DIR/passes.rs, through which rustc reads the original files unchanged. A file whose public
+//! functions are asked is named where it stands. One whose private functions are asked is read from a copy, which is the
+//! original's bytes and then those of src/access.
+use std::{
+    env, fs,
+    path::{Path, PathBuf},
+};
 
-const ORIGINALS: [&str; 6] = ["arith", "expr", "expr_utils", "expr_cost", "width", "result"];
+const CORE: [&str; 6] = [
+    "arith",
+    "expr",
+    "expr_utils",
+    "expr_cost",
+    "width",
+    "result",
+];
+const PASSES: [&str; 1] = ["atom_simplifier"];
 
 fn main() {
-    let here = env::var("CARGO_MANIFEST_DIR").unwrap();
-    let crates = env::var("COBRA_SRC").unwrap_or_else(|_| format!("{here}/../../shared/docs/src/crates"));
+    let here = PathBuf::from(env::var("CARGO_MANIFEST_DIR").unwrap());
+    let crates = env::var("COBRA_SRC")
+        .map_or_else(|_| here.join("../../shared/docs/src/crates"), PathBuf::from);
     // rustc would seek a relative path from OUT_DIR
-    let crates = fs::canonicalize(&crates)
-        .unwrap_or_else(|e| panic!("no folder {crates}, set COBRA_SRC to the original's crates folder: {e}"));
+    let crates = fs::canonicalize(&crates).unwrap_or_else(|e| {
+        panic!("no folder {crates:?}, set COBRA_SRC to the original's crates folder: {e}")
+    });
+    let out = PathBuf::from(env::var("OUT_DIR").unwrap());
     println!("cargo:rerun-if-env-changed=COBRA_SRC");
     println!("cargo:rerun-if-changed=build.rs");
 
-    let mut modules = String::new();
-    for name in ORIGINALS {
-        let file = crates.join(format!("cobra-core/src/{name}.rs"));
-        println!("cargo:rerun-if-changed={}", file.display());
-        modules += &module(name, &file);
+    let mut core = module("compiled", &here.join("src/stubs/compiled.rs"));
+    for name in CORE {
+        core += &module(name, &crates.join(format!("cobra-core/src/{name}.rs")));
     }
-    modules += &module("compiled", &Path::new(&here).join("src/compiled_stub.rs"));
-    fs::write(Path::new(&env::var("OUT_DIR").unwrap()).join("core.rs"), modules).unwrap();
+    fs::write(out.join("core.rs"), core).unwrap();
+
+    let mut passes = module(
+        "candidate_normalize",
+        &here.join("src/stubs/candidate_normalize.rs"),
+    );
+    for name in PASSES {
+        let copy = out.join(format!("{name}.rs"));
+        let original = crates.join(format!("cobra-passes/src/{name}.rs"));
+        with_access(
+            &original,
+            &here.join(format!("src/access/{name}.rs")),
+            &copy,
+        );
+        passes += &module(name, &copy);
+    }
+    fs::write(out.join("passes.rs"), passes).unwrap();
 }
 
 fn module(name: &str, file: &Path) -> String {
+    println!("cargo:rerun-if-changed={}", file.display());
     format!("#[path = {file:?}]\npub mod {name};\n")
+}
+
+fn with_access(original: &Path, access: &Path, copy: &Path) {
+    let mut text = Vec::new();
+    for file in [original, access] {
+        println!("cargo:rerun-if-changed={}", file.display());
+        text.extend(fs::read(file).unwrap_or_else(|e| panic!("{file:?}: {e}")));
+    }
+    fs::write(copy, text).unwrap();
 }

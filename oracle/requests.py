@@ -1,14 +1,14 @@
 #!/usr/bin/env python3
-"""Prints the requests of crates/replay/stdin, the same ones at every run."""
+"""Prints the requests of a test program, replay or replay_rewrites, the same ones at every run."""
 import sys
 
 sys.dont_write_bytecode = True  # the repository stays as it is
 
-from lists import arithmetic, costs, readme, refusals, trees, values, widths
+from lists import arithmetic, costs, readme, refusals, rewrites, trees, values, widths
 from lists.common import Random
 
 
-def requests():
+def of_replay():
     # a seed for each part, so that a change to one leaves the others
     return (arithmetic.masks() + arithmetic.one_value(Random(1)) + arithmetic.two_values(Random(2))
             + arithmetic.shifts(Random(3)) + arithmetic.sign_extensions(Random(4))
@@ -22,5 +22,9 @@ def requests():
             + readme.requests())
 
 
-for line in dict.fromkeys(requests()):
+def of_replay_rewrites():
+    return rewrites.requests(Random)
+
+
+for line in dict.fromkeys({"replay": of_replay, "replay_rewrites": of_replay_rewrites}[sys.argv[1]]()):
     print(line)

@@ -4,7 +4,7 @@ use crate::core::{arith, expr_utils};
 use crate::fields::{self, hex, narrow};
 use crate::refusal::{self, Refusal};
 use crate::words;
-use crate::{cost, value, width};
+use crate::{cost, rewrite, value, width};
 
 pub fn answer(request: &str) -> Result<String, String> {
     let mut fields = request.split(' ');
@@ -16,6 +16,7 @@ pub fn answer(request: &str) -> Result<String, String> {
         (_, [numbers]) => of_one_list(name, numbers),
         ("same_words", [left, right]) => Ok(hex(u64::from(same_words(left, right)))),
         ("is_better", [candidate, baseline]) => cost::is_better(candidate, baseline),
+        (_, [call, words]) => rewrite::answer(name, call, words),
         ("value", [&[w], widths, setting, words]) => {
             value::value(words, narrow(w)?, &fields::all_narrow(widths)?, setting)
         }

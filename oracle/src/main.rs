@@ -2,15 +2,30 @@
 use std::io::{self, BufWriter, Write};
 use std::process::ExitCode;
 
-/// The original Rust, which seeks itself under `crate::core`.
+/// The original Rust, which seeks itself under `crate::core` and `crate::passes`.
 #[allow(dead_code)]
 mod core {
     include!(concat!(env!("OUT_DIR"), "/core.rs"));
 }
+#[allow(dead_code)]
+mod passes {
+    include!(concat!(env!("OUT_DIR"), "/passes.rs"));
+}
+/// What the original names and no request reaches.
+#[allow(dead_code)]
+#[path = "stubs"]
+mod ir {
+    pub mod semilinear;
+}
+#[allow(dead_code)]
+#[path = "stubs/orchestrator.rs"]
+mod orchestrator;
+
 mod answer;
 mod cost;
 mod fields;
 mod refusal;
+mod rewrite;
 mod value;
 mod width;
 mod words;

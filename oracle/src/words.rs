@@ -110,3 +110,32 @@ fn kind_of(kind: u64, operand: u64) -> Kind {
         _ => unreachable!(),
     }
 }
+
+/// The words of a tree, which `read` gives back.
+pub fn write(tree: &Expr) -> Vec<u64> {
+    let (kind, operand) = words_of(&tree.kind);
+    let mut words = vec![kind, operand];
+    for child in &tree.children {
+        words.extend(write(child));
+    }
+    words
+}
+
+fn words_of(kind: &Kind) -> (u64, u64) {
+    match *kind {
+        Kind::Constant(word) => (0, word),
+        Kind::Variable(number) => (1, number.into()),
+        Kind::Add => (2, 0),
+        Kind::Mul => (3, 0),
+        Kind::And => (4, 0),
+        Kind::Or => (5, 0),
+        Kind::Xor => (6, 0),
+        Kind::Not => (7, 0),
+        Kind::Neg => (8, 0),
+        Kind::Shr(amount) => (9, amount.into()),
+        Kind::ZExt(width) => (10, width.into()),
+        Kind::SExt(width) => (11, width.into()),
+        Kind::Trunc(width) => (12, width.into()),
+        Kind::Concat => (13, 0),
+    }
+}

@@ -1,0 +1,99 @@
+//! The rewrites, answered by the original's atom_simplifier.rs. The original writes into no lent places: refusal 9, the words of a
+//! replacement and that all other places are kept are the harness's.
+use crate::answer::node_count;
+use crate::core::expr::Expr;
+use crate::fields::narrow;
+use crate::passes::atom_simplifier::access;
+use crate::refusal::{self, plain, Refusal};
+use crate::words;
+use std::hint::black_box;
+use std::sync::Arc;
+
+/// The test program has no more room than this, in words and in bytes.
+const MOST_OUT: u64 = 1100;
+const MOST_PATH: u64 = 100;
+/// Enough for every path in a tree of 64 levels.
+const PATH_DUE: u64 = 63;
+
+/// The widths and sizes of a call, and how often it is made.
+struct Call {
+    width: u32,
+    out: u64,
+    path: u64,
+    times: u32,
+}
+
+pub fn answer(name: &str, call: &[u64], words: &[u64]) -> Result<String, String> {
+    match (name, call) {
+        ("local", &[w, out]) => local(&read_call(w, out, PATH_DUE, 1)?, words),
+        ("local_times", &[w, out, times]) => local(&read_call(w, out, PATH_DUE, times)?, words),
+        ("site", &[w, out, path]) => site(&read_call(w, out, path, 1)?, words),
+        ("site_times", &[w, out, path, times]) => site(&read_call(w, out, path, times)?, words),
+        _ => Err(format!("no request {name} of 2 lists")),
+    }
+}
+
+fn read_call(width: u64, out: u64, path: u64, times: u64) -> Result<Call, String> {
+    if out > MOST_OUT || path > MOST_PATH || times == 0 {
+        return Err(format!("no such call: {out:x} {path:x} {times:x}"));
+    }
+    Ok(Call {
+        width: narrow(width)?,
+        out,
+        path,
+        times: narrow(times)?,
+    })
+}
+
+fn local(call: &Call, words: &[u64]) -> Result<String, String> {
+    Ok(match accepted(call, words) {
+        Err(r) => format!("{} / kept", refusal::text(r)),
+        Ok(tree) => match repeated(call, &tree, access::local) {
+            None => "none / kept".to_string(),
+            Some(after) => format!("{:x} /{} / kept", node_count(&after), listed(&after)),
+        },
+    })
+}
+
+fn site(call: &Call, words: &[u64]) -> Result<String, String> {
+    Ok(match accepted(call, words) {
+        Err(r) => format!("{} / kept kept", refusal::text(r)),
+        Ok(tree) => match repeated(call, &tree, access::first_site) {
+            None => "none / kept kept".to_string(),
+            Some((path, after)) => {
+                let bytes: String = path.iter().map(|byte| format!(" {byte:x}")).collect();
+                format!(
+                    "{:x} {:x} /{bytes} /{} / kept kept",
+                    path.len(),
+                    node_count(&after),
+                    listed(&after)
+                )
+            }
+        },
+    })
+}
+
+/// The tree, or the first refusal of 1, 2 to 7, 9.
+fn accepted(call: &Call, words: &[u64]) -> Result<Arc<Expr>, Refusal> {
+    if !(1..=64).contains(&call.width) {
+        return Err(plain(1));
+    }
+    let tree = words::read(words)?;
+    if call.out < 2 * (node_count(&tree) + 1) || call.path < PATH_DUE {
+        return Err(plain(9));
+    }
+    Ok(tree)
+}
+
+/// The answer of the last call; `black_box` keeps the others from being left out.
+fn repeated<T>(call: &Call, tree: &Expr, rewrite: fn(&Expr, u32) -> T) -> T {
+    for _ in 1..call.times {
+        black_box(rewrite(black_box(tree), black_box(call.width)));
+    }
+    rewrite(tree, call.width)
+}
+
+fn listed(tree: &Expr) -> String {
+    let words = words::write(tree);
+    words.iter().map(|word| format!(" {word:x}")).collect()
+}
