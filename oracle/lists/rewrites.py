@@ -113,6 +113,28 @@ def nested_chains(rng):
     return lines
 
 
+def halved(rng, kind, word):
+    """Two words of which the operator makes this one."""
+    some = rng.word()
+    return {4: (word | some, word | ~some & MAX), 5: (word & some, word & ~some & MAX), 6: (some, some ^ word)}[kind[0]]
+
+
+def met_again(rng):
+    """A chain whose two constants make one that the rules look for in its other operand: Not of it, the dual operator with it, it itself;
+    and the same with a bit changed, below the width and above it."""
+    lines = []
+    for turn, width in enumerate([3, 8, 8, 33, 64]):
+        word = rng.word() & ones(width) | 1
+        for kind, dual in ((AND, OR), (OR, AND), (XOR, AND)):
+            for other in (word, word ^ 1, above(width, word)):
+                number = [0, other]
+                for end in (NOT + number, dual + X + number, dual + number + X, kind + X + NOT + number, number, OR + Y + number):
+                    a, b = [[0, half] for half in halved(rng, kind, word)]
+                    for words in (kind + kind + end + a + b, kind + a + kind + b + end):
+                        lines.append([local, site][turn % 2](words, width))
+    return lines
+
+
 # Random trees
 
 def random_width(rng):
@@ -315,7 +337,8 @@ def damaged_trees(rng):
 
 
 def requests(random):
-    return (worked() + small_trees() + chains() + pairs() + nested_chains(random(60)) + without_site(random(61))
-            + with_sites(random(62)) + each_form(random(63)) + equal_and_near(random(64)) + any_trees(random(65))
+    return (worked() + small_trees() + chains() + pairs() + nested_chains(random(60)) + met_again(random(71))
+            + without_site(random(61)) + with_sites(random(62)) + each_form(random(63)) + equal_and_near(random(64))
+            + any_trees(random(65))
             + full_trees(random(66)) + large_trees(random(67)) + deep_trees(random(68)) + repeated()
             + sizes(random(69)) + widths() + no_trees() + damaged_trees(random(70)))
