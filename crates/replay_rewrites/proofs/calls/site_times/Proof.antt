@@ -1,0 +1,30 @@
+-- `replay_rewrites::calls::site_times` is safe and ends: the count goes up to `times`. Assumes nothing.
+use mathlib.Core.Path.{_≡_}
+use Prim.Native.Nat.{_≤_, _-_}
+use borrow.Author.Needs.{needs}
+use lib.ListN.{length}
+use Rattle.replay_rewrites.proofs.calls.site_times.Statement.{statement}
+use Rattle.replay_rewrites.proofs.calls.site_times.Tie as tie
+
+abbrev Inv-loop : tie.InvT-loop
+Inv-loop words width times path₀ out₀ done₀ path out done =
+    (length path ≡ length path₀) × (length out ≡ length out₀) × (1 ≤ done)
+
+abbrev μ-loop : tie.MeasureT-loop
+μ-loop words width times path₀ out₀ done₀ path out done = times - done
+
+pub site-times-spec : {M : Type 1} → statement M
+site-times-spec =
+    tie.close
+    (tie.spec
+    Inv-loop
+    μ-loop
+    (λ c. search needs)
+    (λ c κs. search needs)
+    (λ c. search needs)
+    (λ c. search needs)
+    (λ c. search needs)
+    (λ c κs. search needs)
+    (λ c. search needs)
+    (λ c. search needs)
+    (λ c. search needs))
