@@ -113,6 +113,17 @@ def nested_chains(rng):
     return lines
 
 
+def without_rule():
+    """The kinds that no rule is for, over operands that other kinds have a rule for."""
+    few = [X, Y, NOT + X, NEG + X, [0, 0], [0, 1], [0, 3], [0, 255], AND + X + Y, OR + X + Y]
+    pairs_of = [a + b for a in few for b in few]
+    lines = [line for kind in (2, 3, 13) for two in pairs_of for line in (local([kind, 0] + two, 8), local(NOT + [kind, 0] + two, 8))]
+    for kind in (8, 10, 11, 12):
+        for operand in (0, 1, 8) if kind > 8 else (0,):
+            lines += [line for a in few for line in both([kind, operand] * 2 + a, 8) + [local([kind, operand] + a, 8)]]
+    return lines
+
+
 def halved(rng, kind, word):
     """Two words of which the operator makes this one."""
     some = rng.word()
@@ -338,7 +349,7 @@ def damaged_trees(rng):
 
 def requests(random):
     return (worked() + small_trees() + chains() + pairs() + nested_chains(random(60)) + met_again(random(71))
-            + without_site(random(61)) + with_sites(random(62)) + each_form(random(63)) + equal_and_near(random(64))
-            + any_trees(random(65))
+            + without_rule() + without_site(random(61)) + with_sites(random(62)) + each_form(random(63))
+            + equal_and_near(random(64)) + any_trees(random(65))
             + full_trees(random(66)) + large_trees(random(67)) + deep_trees(random(68)) + repeated()
             + sizes(random(69)) + widths() + no_trees() + damaged_trees(random(70)))

@@ -4,7 +4,7 @@ ghost use lib.ListN.{length};
 use requests::output::put;
 use requests::output::put_field;
 
-// No replacement has such a word, and no path such a byte; they differ from place to place.
+// No stored tree has such a word, and no path such a byte; they differ from place to place.
 fn word_mark(i: usize) -> u64 {
     0xa5c3_0000_0000_0000 | i as u64
 }
