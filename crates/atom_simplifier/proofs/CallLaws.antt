@@ -33,8 +33,8 @@ use Rattle.rewriting.specs.AtomSimplifier as def
 use Rattle.rewriting.specs.AtomSimplifier.{localRewrite, firstSite, subtreeAt}
 use Rattle.rewriting.specs.SiteLaws.{first-site}
 use Rattle.rewriting.specs.MeasureLaws.{local-nodes}
-use Rattle.atom_simplifier.specs.declared.local.Local.{Local}
-use Rattle.atom_simplifier.specs.declared.local.Local.the-variants.{Nothing}
+use Rattle.atom_simplifier.specs.declared.local.Decision.{Decision}
+use Rattle.atom_simplifier.specs.declared.local.Decision.the-variants.{Nothing}
 use Rattle.atom_simplifier.specs.declared.search.Site.{Site}
 use Rattle.atom_simplifier.specs.declared.search.Search.{Search}
 use Rattle.atom_simplifier.specs.declared.search.Search.the-variants.{None, Found}
@@ -167,7 +167,7 @@ module _ (ws : List ℕ) (w room : ℕ) (x : Counted) (h : countedOutcome x ≡ 
     unfolding localRewriteAt
     local-is = mapped-accepted was (localRewrite w) ∙ ap (λ (s : Expr). accepted (localRewrite w s)) (sym tree-is)
 
-    module _ (d : Local) (g : Decides ws d (localRewrite w (treeAt ws))) where
+    module _ (d : Decision) (g : Decides ws d (localRewrite w (treeAt ws))) where
       module _ (f : d ≡ Nothing) where
         stays : localRewriteAt ws w room ≡ accepted none
         stays = local-is ∙ ap accepted (none-decided ws d _ g f)

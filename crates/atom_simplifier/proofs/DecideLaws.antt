@@ -14,18 +14,18 @@ use Rattle.expr.specs.Parse.{arityOf}
 use Rattle.expr.specs.TailLaws.{tail, length-tail}
 use Rattle.expr.specs.Front.{Exactly, leftOf, rightOf}
 use Rattle.expr.specs.PartLaws.{part, two-children, left-exact, right-exact}
-use Rattle.atom_simplifier.specs.declared.local.Local.{Local}
-use Rattle.atom_simplifier.specs.declared.local.Local.the-variants.{Nothing}
-use Rattle.atom_simplifier.proofs.local.Local.{the-type}
+use Rattle.atom_simplifier.specs.declared.local.Decision.{Decision}
+use Rattle.atom_simplifier.specs.declared.local.Decision.the-variants.{Nothing}
+use Rattle.atom_simplifier.proofs.local.Decision.{the-type}
 use Rattle.atom_simplifier.specs.Contracts.{Within, Holds, Makes, Meaning, Decides}
 
 -- any decision but Nothing
-pub is-rewrite : (d : Local) → OneOf (1 ∷ 2 ∷ 3 ∷ 4 ∷ []) (tagOf the-type d) → d ≡ Nothing → ⊥
+pub is-rewrite : (d : Decision) → OneOf (1 ∷ 2 ∷ 3 ∷ 4 ∷ []) (tagOf the-type d) → d ≡ Nothing → ⊥
 is-rewrite d z e =
     let n : tagOf the-type d ≡ 0 = ap (tagOf the-type) e in
     ⊎-elim (λ y. omega arith) (⊎-elim (λ y. omega arith) (⊎-elim (λ y. omega arith) (λ y. omega arith))) z
 
-module _ (ws : List ℕ) (d : Local) where
+module _ (ws : List ℕ) (d : Decision) where
   pub decides-none : (o : Option Expr) → o ≡ none → d ≡ Nothing → Decides ws d o
   unfolding Meaning
   decides-none o e f = subst (Decides ws d) (sym e) (record { is = f })
@@ -38,7 +38,7 @@ module _ (ws : List ℕ) (d : Local) where
   pub none-decided : (o : Option Expr) → Decides ws d o → d ≡ Nothing → o ≡ none
   unfolding Meaning Makes
   none-decided none h e = refl
-  none-decided (some u) h e = absurd (subst (λ (x : Local). Makes ws x u) e (h .is))
+  none-decided (some u) h e = absurd (subst (λ (x : Decision). Makes ws x u) e (h .is))
 
   pub some-decided : (o : Option Expr) → Decides ws d o → (d ≡ Nothing → ⊥) → (u : Expr) × (o ≡ some u) × Makes ws d u
   unfolding Meaning

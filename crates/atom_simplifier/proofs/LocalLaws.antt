@@ -25,11 +25,11 @@ use Rattle.expr.specs.Answers.{arityOutcome}
 use Rattle.expr.specs.TailLaws.{tail, length-tail}
 use Rattle.expr.specs.Front.{Exactly, treeAt, leftOf, rightOf}
 use Rattle.expr.specs.PartLaws.{part, parts, OneChild, TwoChildren, exact-tree, no-child, one-child, two-children, left-tree, right-tree}
-use Rattle.rewriting.specs.Optional.{onlyIf, _isSome_}
+use Rattle.rewriting.specs.Optional.{onlyIf, _equalsSome_}
 use Rattle.rewriting.specs.AtomSimplifier as def
 use Rattle.rewriting.specs.AtomSimplifier.{constant, isNotKind, isNot, constantVal, samePart, Bitwise, and, or, xor, kindOf, foldRewrite, deMorgan, notRewrite, unaryRewrite, binaryRewrite, localRewrite}
-use Rattle.atom_simplifier.specs.declared.local.Local.{Local}
-use Rattle.atom_simplifier.specs.declared.local.Local.the-variants as local
+use Rattle.atom_simplifier.specs.declared.local.Decision.{Decision}
+use Rattle.atom_simplifier.specs.declared.local.Decision.the-variants as local
 use Rattle.atom_simplifier.specs.Contracts.{isConstant, bitwiseOf, IsBitwise, Within, Holds, dualNumber, Makes, Decides}
 use Rattle.atom_simplifier.proofs.DecideLaws.{decides-none, decides-some, all-within, left-holds, part-within}
 use Rattle.atom_simplifier.proofs.OperandLaws.{number-not, number-bitwise, bitwise-arity, is-not-kind}
@@ -88,7 +88,7 @@ module _ (node : List ℕ) (t : Expr) (x : Exactly node t) (a : arityOf (getD no
       ∙ ap₂ (λ (k o : ℕ). byNumber k o (leftOf t)) (sym (n .number-is)) (sym (n .operand-is))
 
 module _ (node : List ℕ) (t : Expr) (x : Exactly node t) (a : arityOf (getD node 0 0) ≡ accepted 1) (w : ℕ) where
-  pub not-decides : (r : Local) → getD node 0 0 ≡ 7 → Decides node r (notRewrite (leftOf t)) → Decides node r (localRewrite w t)
+  pub not-decides : (r : Decision) → getD node 0 0 ≡ 7 → Decides node r (notRewrite (leftOf t)) → Decides node r (localRewrite w t)
   not-decides r e d = subst (Decides node r) (sym (by-words node t x a w ∙ simp (eq-eqb (getD node 0 0) 7 e))) d
 
   module _ (e : getD node 0 0 ≡ 7 → ⊥) where
@@ -324,7 +324,7 @@ module _ (node : List ℕ) (t : Expr) (x : Exactly node t) (w : ℕ) where
       let a₁ = ap arityOf e ∙ number-arity (kinds.two (kindOf op)) in
       root-two a₁ ∙ ap (λ (k : Binary). binaryRewrite w k (leftOf t) (rightOf t)) (same-binary (m a₁ .kind) (kindOf op) (sym (m a₁ .number-is) ∙ e))
 
-  pub xor-decides : (r : Local) → getD node 0 0 ≡ 6 → Decides node r (foldRewrite w (bitwiseOf (getD node 0 0)) (leftOf t) (rightOf t)) → Decides node r (localRewrite w t)
+  pub xor-decides : (r : Decision) → getD node 0 0 ≡ 6 → Decides node r (foldRewrite w (bitwiseOf (getD node 0 0)) (leftOf t) (rightOf t)) → Decides node r (localRewrite w t)
   unfolding binaryRewrite
   xor-decides r e d = subst (Decides node r) (ap (λ (k : ℕ). foldRewrite w (bitwiseOf k) (leftOf t) (rightOf t)) e ∙ sym (root-kind xor e)) d
 
@@ -341,7 +341,7 @@ module _ (node : List ℕ) (t : Expr) (x : Exactly node t) (w : ℕ) where
           decides-some node (local.Part 2 (right - 2)) _ (leftOf t) (root-kind or e ∙ simp (or-same ∙ f))
           (left-holds node t x (ap arityOf e ∙ number-arity (kinds.two Or)) right q)
 
-      pub or-decides : s ≡ false → (r : Local) → Decides node r (foldRewrite w (bitwiseOf (getD node 0 0)) (leftOf t) (rightOf t)) → Decides node r (localRewrite w t)
+      pub or-decides : s ≡ false → (r : Decision) → Decides node r (foldRewrite w (bitwiseOf (getD node 0 0)) (leftOf t) (rightOf t)) → Decides node r (localRewrite w t)
       unfolding binaryRewrite
       or-decides f r d =
           subst (Decides node r) (ap (λ (k : ℕ). foldRewrite w (bitwiseOf k) (leftOf t) (rightOf t)) e ∙ sym (root-kind or e ∙ simp (or-same ∙ f))) d
@@ -358,22 +358,22 @@ module _ (node : List ℕ) (t : Expr) (x : Exactly node t) (w : ℕ) where
       and-equal f = decides-some node (local.Part 2 (right - 2)) _ (leftOf t) (root-kind and e ∙ simp (and-same ∙ f)) (left-holds node t x a-and right q)
 
       module _ (f : s ≡ false) (p : Bool) (i : p ≡ isConstant w (treeAt (part 2 right node)) 3) where
-        three : (constantVal w (leftOf t) isSome 3) ≡ p
+        three : (constantVal w (leftOf t) equalsSome 3) ≡ p
         unfolding isConstant
         three = sym (i ∙ ap (λ (u : Expr). isConstant w u 3) (left-tree node t x a-and right q))
 
-        pub and-decides : not p ≡ true → (r : Local) → Decides node r (foldRewrite w (bitwiseOf (getD node 0 0)) (leftOf t) (rightOf t)) → Decides node r (localRewrite w t)
+        pub and-decides : not p ≡ true → (r : Decision) → Decides node r (foldRewrite w (bitwiseOf (getD node 0 0)) (leftOf t) (rightOf t)) → Decides node r (localRewrite w t)
         unfolding binaryRewrite
         and-decides g r d =
             subst (Decides node r)
             (ap (λ (k : ℕ). foldRewrite w (bitwiseOf k) (leftOf t) (rightOf t)) e ∙ sym (root-kind and e ∙ simp (and-same ∙ f, three ∙ not-true p g))) d
 
         module _ (g : not p ≡ false) (y : Bool) (j : y ≡ isConstant w (treeAt (tail right node)) 1) where
-          one : (constantVal w (rightOf t) isSome 1) ≡ y
+          one : (constantVal w (rightOf t) equalsSome 1) ≡ y
           unfolding isConstant
           one = sym (j ∙ ap (λ (u : Expr). isConstant w u 1) (right-tree node t x a-and right q))
 
-          pub and-decides-2 : not y ≡ true → (r : Local) → Decides node r (foldRewrite w (bitwiseOf (getD node 0 0)) (leftOf t) (rightOf t)) → Decides node r (localRewrite w t)
+          pub and-decides-2 : not y ≡ true → (r : Decision) → Decides node r (foldRewrite w (bitwiseOf (getD node 0 0)) (leftOf t) (rightOf t)) → Decides node r (localRewrite w t)
           unfolding binaryRewrite
           and-decides-2 l r d =
               subst (Decides node r)
@@ -387,7 +387,7 @@ module _ (node : List ℕ) (t : Expr) (x : Exactly node t) (w : ℕ) where
 -- ---- the root
 
 -- what holds at every width
-pub at-width : (node : List ℕ) (t : Expr) (r : Local) → ((v : ℕ) → Decides node r (localRewrite v t)) → (w : ℕ) → Decides node r (localRewrite w t)
+pub at-width : (node : List ℕ) (t : Expr) (r : Decision) → ((v : ℕ) → Decides node r (localRewrite v t)) → (w : ℕ) → Decides node r (localRewrite w t)
 at-width node t r d w = d w
 
 module _ (node : List ℕ) (t : Expr) (x : Exactly node t) (w : ℕ) (v : Arity) (h : arityOutcome v ≡ arityOf (getD node 0 0)) where

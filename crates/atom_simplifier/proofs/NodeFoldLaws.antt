@@ -23,8 +23,8 @@ use Rattle.atom_simplifier.specs.declared.fold.ConstantVal.{ConstantVal}
 use Rattle.atom_simplifier.specs.declared.fold.ConstantVal.the-variants as val
 use Rattle.atom_simplifier.specs.declared.fold.Arm.{Arm}
 use Rattle.atom_simplifier.specs.declared.fold.Arm.the-variants as arm
-use Rattle.atom_simplifier.specs.declared.local.Local.{Local}
-use Rattle.atom_simplifier.specs.declared.local.Local.the-variants.{Nothing, Part, Constant}
+use Rattle.atom_simplifier.specs.declared.local.Decision.{Decision}
+use Rattle.atom_simplifier.specs.declared.local.Decision.the-variants.{Nothing, Part, Constant}
 use Rattle.atom_simplifier.specs.Contracts.{constantOption, armTree, bitwiseOf, IsBitwise, armRewrite, Within, Makes, Decides, DecidesAt}
 use Rattle.atom_simplifier.proofs.DecideLaws.{is-rewrite, decides-none, decides-some, none-decided, some-decided, left-within, right-within, all-within, left-holds, right-holds}
 use Rattle.atom_simplifier.proofs.OperandLaws.{bitwise-arity}
@@ -32,7 +32,7 @@ use Rattle.atom_simplifier.proofs.OperandLaws.{bitwise-arity}
 -- ---- `reassociate_beside`
 
 module _ (k from : ℕ) (x : List ℕ) (w : ℕ) (t u : Expr) (v : ConstantVal) (h : constantOption v ≡ constantVal w u) where
-  pub beside-word : (c : ℕ) (r : Local) → v ≡ val.Word c → DecidesAt k from x r (reassociateConstant w (bitwiseOf k) t c)
+  pub beside-word : (c : ℕ) (r : Decision) → v ≡ val.Word c → DecidesAt k from x r (reassociateConstant w (bitwiseOf k) t c)
       → DecidesAt k from x r (constantVal w u andThen reassociateConstant w (bitwiseOf k) t)
   beside-word c r e d = subst (λ (o : Option ℕ). DecidesAt k from x r (o andThen reassociateConstant w (bitwiseOf k) t)) (ap constantOption (sym e) ∙ h) d
 
@@ -86,7 +86,7 @@ module _ (node : List ℕ) (t : Expr) (x : Exactly node t) (b : IsBitwise (getD 
       arms-are y k = sym (ap (armTree op (leftOf t) (rightOf t)) (sym k) ∙ ap₂ (λ (s u : Expr). armTree op s u v) (sym lhs) (sym rhs) ∙ j ∙ ap₂ (arms w op) lhs rhs)
 
       fires : (y : Arm) → v ≡ y → Less (binary (kindOf op) (leftOf t) (rightOf t)) (armTree op (leftOf t) (rightOf t) y)
-          → (r : Local) → Makes node r (armTree op (leftOf t) (rightOf t) y) → Decides node r (armRewrite w op (leftOf t) (rightOf t))
+          → (r : Decision) → Makes node r (armTree op (leftOf t) (rightOf t) y) → Decides node r (armRewrite w op (leftOf t) (rightOf t))
       unfolding armRewrite
       fires y k less r m =
           let u = armTree op (leftOf t) (rightOf t) y in
@@ -139,7 +139,7 @@ module _ (node : List ℕ) (t : Expr) (x : Exactly node t) (b : IsBitwise (getD 
         (folds first second refl refl ∙ ap (λ (o : Option Expr). o otherwise arms w op (leftOf t) (rightOf t)) e)
         (reassociated-less w op (leftOf t) (rightOf t) u (ap₂ (λ (y z : Option Expr). y orElse z) (sym first-is) (sym second-is) ∙ e))
 
-    module _ (d : Local) (h : DecidesAt (getD node 0 0) 2 (part 2 right node) d first) where
+    module _ (d : Decision) (h : DecidesAt (getD node 0 0) 2 (part 2 right node) d first) where
       first-decides : Decides node d first
       first-decides = h .in-node node (left-within node node 0 (all-within node) t x a right q) refl
 
@@ -148,19 +148,19 @@ module _ (node : List ℕ) (t : Expr) (x : Exactly node t) (b : IsBitwise (getD 
           let m = some-decided node d first first-decides f in
           decides-some node d _ (m .0) (reassociated (m .0) (ap (λ (o : Option Expr). o orElse second) (m .1))) (m .2)
 
-    module _ (g : Local) (i : DecidesAt (getD node 0 0) right (tail right node) g second) where
+    module _ (g : Decision) (i : DecidesAt (getD node 0 0) right (tail right node) g second) where
       second-decides : Decides node g second
       second-decides =
           let p : 0 + right ≡ right = omega arith in
           i .in-node node (subst (λ (j : ℕ). Within node j (tail right node)) p (right-within node node 0 (all-within node) t x a right q)) refl
 
-      pub second-found : (g ≡ Nothing → ⊥) → (d : Local) → DecidesAt (getD node 0 0) 2 (part 2 right node) d first → d ≡ Nothing → Decides node g (foldRewrite w op (leftOf t) (rightOf t))
+      pub second-found : (g ≡ Nothing → ⊥) → (d : Decision) → DecidesAt (getD node 0 0) 2 (part 2 right node) d first → d ≡ Nothing → Decides node g (foldRewrite w op (leftOf t) (rightOf t))
       second-found f d h e =
           let m = some-decided node g second second-decides f in
           decides-some node g _ (m .0) (reassociated (m .0) (ap₂ (λ (y z : Option Expr). y orElse z) (none-decided node d first (first-decides d h) e) (m .1))) (m .2)
 
-      pub arms-found : g ≡ Nothing → (d : Local) → DecidesAt (getD node 0 0) 2 (part 2 right node) d first → d ≡ Nothing
-          → (r : Local) → Decides node r (armRewrite w op (leftOf t) (rightOf t)) → Decides node r (foldRewrite w op (leftOf t) (rightOf t))
+      pub arms-found : g ≡ Nothing → (d : Decision) → DecidesAt (getD node 0 0) 2 (part 2 right node) d first → d ≡ Nothing
+          → (r : Decision) → Decides node r (armRewrite w op (leftOf t) (rightOf t)) → Decides node r (foldRewrite w op (leftOf t) (rightOf t))
       unfolding foldRewrite armRewrite
       arms-found f d h e r m =
           subst (λ (u : Expr). Decides node r (if samePart w u (binary (kindOf op) (leftOf t) (rightOf t)) then none else some u))

@@ -28,7 +28,7 @@ use Rattle.expr.specs.SameWords.{sameWords}
 use Rattle.expr.specs.TailLaws.{tail}
 use Rattle.expr.specs.Front.{Exactly, treeAt, leftOf, rightOf}
 use Rattle.expr.specs.PartLaws.{part, parts, TwoChildren, exact-length, no-child, one-child, two-children, child-tree, left-tree, right-tree}
-use Rattle.rewriting.specs.Optional.{_isSome_}
+use Rattle.rewriting.specs.Optional.{_equalsSome_}
 use Rattle.rewriting.specs.AtomSimplifier.{isNotKind, constantVal, samePart, isNotOf, areComplements, containsOperand, kindOf}
 use Rattle.atom_simplifier.specs.declared.fold.ConstantVal.{ConstantVal}
 use Rattle.atom_simplifier.specs.declared.fold.ConstantVal.the-variants as val
@@ -80,20 +80,20 @@ no-constant ws (binary k l r) x w f = refl
 module _ (w : ℕ) (t : Expr) (v : ConstantVal) (h : constantOption v ≡ constantVal w t) (c : ℕ) where
   pub is-word : (d : ℕ) → v ≡ val.Word d → eqb d c ≡ isConstant w t c
   unfolding isConstant
-  is-word d e = ap (λ (p : Option ℕ). p isSome c) (ap constantOption (sym e) ∙ h)
+  is-word d e = ap (λ (p : Option ℕ). p equalsSome c) (ap constantOption (sym e) ∙ h)
 
   pub is-no-word : v ≡ val.None → false ≡ isConstant w t c
   unfolding isConstant
-  is-no-word e = ap (λ (p : Option ℕ). p isSome c) (ap constantOption (sym e) ∙ h)
+  is-no-word e = ap (λ (p : Option ℕ). p equalsSome c) (ap constantOption (sym e) ∙ h)
 
 module _ (w : ℕ) (t u : Expr) (c : ℕ) (b : Bool) (h : b ≡ isConstant w t c) where
   pub first-constant : b ≡ true → true ≡ eitherConstant w t u c
   unfolding isConstant eitherConstant
-  first-constant e = sym (ap (λ (d : Bool). d || (constantVal w u isSome c)) (sym h ∙ e))
+  first-constant e = sym (ap (λ (d : Bool). d || (constantVal w u equalsSome c)) (sym h ∙ e))
 
   pub second-constant : b ≡ false → (r : Bool) → r ≡ isConstant w u c → r ≡ eitherConstant w t u c
   unfolding isConstant eitherConstant
-  second-constant e r g = g ∙ sym (ap (λ (d : Bool). d || (constantVal w u isSome c)) (sym h ∙ e))
+  second-constant e r g = g ∙ sym (ap (λ (d : Bool). d || (constantVal w u equalsSome c)) (sym h ∙ e))
 
 pub same-words : (a b : List ℕ) (t u : Expr) → Exactly a t → Exactly b u → (w : ℕ) (r : Bool) → r ≡ sameWords a b → r ≡ samePart w t u
 unfolding samePart

@@ -21,8 +21,8 @@ use Rattle.atom_simplifier.specs.declared.fold.ConstantVal.{ConstantVal}
 use Rattle.atom_simplifier.specs.declared.fold.ConstantVal.the-variants as val
 use Rattle.atom_simplifier.specs.declared.fold.Arm.{Arm}
 use Rattle.atom_simplifier.specs.declared.fold.Arm.the-variants as arm
-use Rattle.atom_simplifier.specs.declared.local.Local.{Local}
-use Rattle.atom_simplifier.specs.declared.local.Local.the-variants.{Nothing, Part, Constant, Join}
+use Rattle.atom_simplifier.specs.declared.local.Decision.{Decision}
+use Rattle.atom_simplifier.specs.declared.local.Decision.the-variants.{Nothing, Part, Constant, Join}
 use Rattle.atom_simplifier.specs.Contracts.{constantOption, armTree, bitwiseOf, IsBitwise, Within, Makes, Decides, DecidesAt}
 use Rattle.atom_simplifier.proofs.DecideLaws.{is-rewrite, decides-none, decides-some, none-decided, some-decided, part-holds, left-within, right-within}
 use Rattle.atom_simplifier.proofs.OperandLaws.{number-bitwise}
@@ -42,8 +42,8 @@ module _ (c : ℕ) where
 
 -- ---- `fold_constant`
 
-module _ (w k from : ℕ) (part : List ℕ) (found : Local) (t : Expr) (c : ℕ) (h : DecidesAt k from part found (reassociateConstant w (bitwiseOf k) t c)) where
-  abbrev Folded : Local → Type 0
+module _ (w k from : ℕ) (part : List ℕ) (found : Decision) (t : Expr) (c : ℕ) (h : DecidesAt k from part found (reassociateConstant w (bitwiseOf k) t c)) where
+  abbrev Folded : Decision → Type 0
   Folded r = DecidesAt k from part r (some (tryFoldBinary w (bitwiseOf k) t (constant c)))
 
   -- the fold, from what reassociation gives
@@ -59,7 +59,7 @@ module _ (w k from : ℕ) (part : List ℕ) (found : Local) (t : Expr) (c : ℕ)
 
   module _ (e : found ≡ Nothing) (a : Arm) (g : armTree (bitwiseOf k) t (treeAt (0 ∷ c ∷ [])) a ≡ arms w (bitwiseOf k) t (treeAt (0 ∷ c ∷ []))) where
     -- nothing was found, so the arms decide
-    by-arm : (d : Local) (b : Arm) → a ≡ b → ((ws : List ℕ) → Within ws from part → getD ws 0 0 ≡ k → Makes ws d (armTree (bitwiseOf k) t (constant c) b)) → Folded d
+    by-arm : (d : Decision) (b : Arm) → a ≡ b → ((ws : List ℕ) → Within ws from part → getD ws 0 0 ≡ k → Makes ws d (armTree (bitwiseOf k) t (constant c) b)) → Folded d
     by-arm d b f m = record {
       in-node = λ ws p i.
           decides-some ws d _ (armTree (bitwiseOf k) t (constant c) b)
@@ -89,7 +89,7 @@ module _ (w k from : ℕ) (part : List ℕ) (found : Local) (t : Expr) (c : ℕ)
 -- ---- `reassociate_constant`
 
 module _ (k : ℕ) (b : IsBitwise k) (lhs : List ℕ) (from w c : ℕ) where
-  abbrev Reassociated : Expr → Local → Type 0
+  abbrev Reassociated : Expr → Decision → Type 0
   Reassociated t r = DecidesAt k from lhs r (reassociateConstant w (bitwiseOf k) t c)
 
   nothing : (t : Expr) → reassociateConstant w (bitwiseOf k) t c ≡ none → Reassociated t Nothing
@@ -121,7 +121,7 @@ module _ (k : ℕ) (b : IsBitwise k) (lhs : List ℕ) (from w c : ℕ) where
       right-val : constantVal w (rightOf t) ≡ constantOption v
       right-val = sym (g ∙ ap (constantVal w) (right-tree lhs t x a right q))
 
-      pub from-right : (d m : ℕ) (r : Local) → v ≡ val.Word d → m ≡ foldedWord w (bitwiseOf k) d c
+      pub from-right : (d m : ℕ) (r : Decision) → v ≡ val.Word d → m ≡ foldedWord w (bitwiseOf k) d c
           → DecidesAt k (from + 2) (part 2 right lhs) r (some (tryFoldBinary w (bitwiseOf k) (treeAt (part 2 right lhs)) (constant m))) → Reassociated t r
       from-right d m r f n h = record {
         in-node = λ ws p i.
@@ -139,7 +139,7 @@ module _ (k : ℕ) (b : IsBitwise k) (lhs : List ℕ) (from w c : ℕ) where
         pub no-constants : y ≡ val.None → Reassociated t Nothing
         no-constants n = nothing t (made none none (right-val ∙ ap constantOption f) (left-val ∙ ap constantOption n))
 
-        pub from-left : (d m : ℕ) (r : Local) → y ≡ val.Word d → m ≡ foldedWord w (bitwiseOf k) d c
+        pub from-left : (d m : ℕ) (r : Decision) → y ≡ val.Word d → m ≡ foldedWord w (bitwiseOf k) d c
             → DecidesAt k (from + right) (tail right lhs) r (some (tryFoldBinary w (bitwiseOf k) (treeAt (tail right lhs)) (constant m))) → Reassociated t r
         from-left d m r n i j = record {
           in-node = λ ws p l.

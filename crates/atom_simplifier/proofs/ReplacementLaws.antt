@@ -12,8 +12,8 @@ use Rattle.expr.specs.ExprLaws.{nodes-pos, length-encode}
 use Rattle.expr.specs.TailLaws.{tail-drop}
 use Rattle.expr.specs.PartLaws.{part}
 use Rattle.rewriting.specs.AtomSimplifier.{constant, not}
-use Rattle.atom_simplifier.specs.declared.local.Local.{Local}
-use Rattle.atom_simplifier.specs.declared.local.Local.the-variants.{Nothing, Part, Constant, Join, DeMorgan}
+use Rattle.atom_simplifier.specs.declared.local.Decision.{Decision}
+use Rattle.atom_simplifier.specs.declared.local.Decision.the-variants.{Nothing, Part, Constant, Join, DeMorgan}
 use Rattle.atom_simplifier.specs.Contracts.{Holds, Joined, dualNumber, Turns, Makes, copied, Laid, Writable, Writes}
 
 -- ---- a part
@@ -32,9 +32,9 @@ module _ (ws : List ℕ) (at len : ℕ) (u : Expr) (h : Holds ws at len u) where
       let p = h .within in
       omega (arith, ap length (p .words), length-append (p .front) (encode u ++ p .back), length-append (encode u) (p .back), p .place, h .words)
 
-module _ (ws : List ℕ) (d : Local) (room : ℕ) (w : Writable ws d room) where
-  made : (e : Local) → d ≡ e → Makes ws e (w .tree)
-  made e f = subst (λ (x : Local). Makes ws x (w .tree)) f (w .makes)
+module _ (ws : List ℕ) (d : Decision) (room : ℕ) (w : Writable ws d room) where
+  made : (e : Decision) → d ≡ e → Makes ws e (w .tree)
+  made e f = subst (λ (x : Decision). Makes ws x (w .tree)) f (w .makes)
 
   module _ (at len : ℕ) (e : d ≡ Part at len) where
     part-held : Holds ws at len (w .tree)
@@ -110,16 +110,16 @@ module _ (ws : List ℕ) (d : Local) (room : ℕ) (w : Writable ws d room) where
 
 -- ---- what was written
 
-pub nothing-written : (ws : List ℕ) (d : Local) (room : ℕ) → Writable ws d room → d ≡ Nothing → (before after : List ℕ) (n : ℕ) → Writes ws d before after n
+pub nothing-written : (ws : List ℕ) (d : Decision) (room : ℕ) → Writable ws d room → d ≡ Nothing → (before after : List ℕ) (n : ℕ) → Writes ws d before after n
 unfolding Makes
 nothing-written ws d room w e before after n = absurd (made ws d room w Nothing e)
 
-module _ (ws : List ℕ) (d : Local) (before after : List ℕ) where
+module _ (ws : List ℕ) (d : Decision) (before after : List ℕ) where
   -- the words that each tree of the decision has are those written
-  written : (e : Local) → d ≡ e → (n : ℕ) (xs : List ℕ) → Laid before after xs → ((u : Expr) → Makes ws e u → xs ≡ encode u) → n ≡ length xs → Writes ws d before after n
+  written : (e : Decision) → d ≡ e → (n : ℕ) (xs : List ℕ) → Laid before after xs → ((u : Expr) → Makes ws e u → xs ≡ encode u) → n ≡ length xs → Writes ws d before after n
   written e f n xs l g i = record {
-    laid = λ u m. subst (Laid before after) (g u (subst (λ (x : Local). Makes ws x u) f m)) l;
-    count = λ u m. i ∙ ap length (g u (subst (λ (x : Local). Makes ws x u) f m));
+    laid = λ u m. subst (Laid before after) (g u (subst (λ (x : Decision). Makes ws x u) f m)) l;
+    count = λ u m. i ∙ ap length (g u (subst (λ (x : Decision). Makes ws x u) f m));
   }
 
   pub constant-written : (c : ℕ) → d ≡ Constant c → Laid before after (0 ∷ c ∷ []) → Writes ws d before after 2

@@ -28,22 +28,22 @@ use Rattle.rewriting.specs.Optional.{map, _orElse_}
 use Rattle.rewriting.specs.AtomSimplifier as def
 use Rattle.rewriting.specs.AtomSimplifier.{localRewrite, here, below, firstSite}
 use Rattle.rewriting.specs.SiteLaws.{first-site}
-use Rattle.atom_simplifier.specs.declared.local.Local.{Local}
-use Rattle.atom_simplifier.specs.declared.local.Local.the-variants.{Nothing, Part, Constant, Join, DeMorgan}
+use Rattle.atom_simplifier.specs.declared.local.Decision.{Decision}
+use Rattle.atom_simplifier.specs.declared.local.Decision.the-variants.{Nothing, Part, Constant, Join, DeMorgan}
 use Rattle.atom_simplifier.specs.declared.search.Site.{Site}
 use Rattle.atom_simplifier.specs.declared.search.Search.{Search}
 use Rattle.atom_simplifier.specs.declared.search.Search.the-variants.{None, Found}
 use Rattle.atom_simplifier.specs.Contracts.{Within, Makes, Meaning, Decides, atRoot, underParent, IsFound, SearchIs, Searched}
-use Rattle.atom_simplifier.proofs.local.Local.{the-type}
+use Rattle.atom_simplifier.proofs.local.Decision.{the-type}
 use Rattle.atom_simplifier.proofs.LocalLaws.{first-word}
 use Rattle.atom_simplifier.proofs.WriteLaws.{put-tail}
 
 -- ---- `at_root`
 
-pub root-none : (n : ℕ) (d : Local) → d ≡ Nothing → None n ≡ atRoot n d
+pub root-none : (n : ℕ) (d : Decision) → d ≡ Nothing → None n ≡ atRoot n d
 root-none n d e = sym (ap (atRoot n) e)
 
-pub root-found : (n : ℕ) (d : Local) → OneOf (1 ∷ 2 ∷ 3 ∷ 4 ∷ []) (tagOf the-type d) → Found (record { at = 0; words = n; levels = 0; local = d }) ≡ atRoot n d
+pub root-found : (n : ℕ) (d : Decision) → OneOf (1 ∷ 2 ∷ 3 ∷ 4 ∷ []) (tagOf the-type d) → Found (record { at = 0; words = n; levels = 0; local = d }) ≡ atRoot n d
 root-found n Nothing z = absurd (⊎-elim (λ y. omega arith) (⊎-elim (λ y. omega arith) (⊎-elim (λ y. omega arith) (λ y. omega arith))) z)
 root-found n (Part at len) z = refl
 root-found n (Constant c) z = refl
@@ -78,7 +78,7 @@ first-found o z ws n m before after r s h e =
     record { is = subst (SearchIs (o orElse z) ws m before after) (sym e) (f .0, ap (λ (p : Option def.Site). p orElse z) (f .1), f .2) }
 
 -- the root, where no child has a site
-at-root : (w : ℕ) (ws : List ℕ) (n : ℕ) (t : Expr) (d : Local) (r : Search) (before after : List ℕ) (o : Option def.Site) → after ≡ before → n ≡ length (encode t)
+at-root : (w : ℕ) (ws : List ℕ) (n : ℕ) (t : Expr) (d : Decision) (r : Search) (before after : List ℕ) (o : Option def.Site) → after ≡ before → n ≡ length (encode t)
     → Front ws t → Decides (part 0 n ws) d (localRewrite w t) → r ≡ atRoot n d → o ≡ map here (localRewrite w t) → Searched o ws n before after r
 unfolding SearchIs Meaning Makes
 at-root w ws n t d r before after o k e f h g i =
@@ -95,10 +95,10 @@ at-root w ws n t d r before after o k e f h g i =
     long : n ≡ length (part 0 n ws)
     long = e ∙ sym (ap length (front-part ws t f n e .words))
 
-    found : (c : Local) (u : Expr) → Makes (part 0 n ws) c u → IsFound (here u) ws before after (record { at = 0; words = n; levels = 0; local = c })
+    found : (c : Decision) (u : Expr) → Makes (part 0 n ws) c u → IsFound (here u) ws before after (record { at = 0; words = n; levels = 0; local = c })
     found c u m = record { bytes = record { is = k }; levels-is = refl; node = part 0 n ws; within = whole; words-is = long; makes = m }
 
-    go : (c : Local) (p : Option Expr) → Decides (part 0 n ws) c p → Searched (map here p) ws n before after (atRoot n c)
+    go : (c : Decision) (p : Option Expr) → Decides (part 0 n ws) c p → Searched (map here p) ws n before after (atRoot n c)
     go Nothing none m = record { is = (refl, refl, k) }
     go Nothing (some u) m = absurd (m .is)
     go (Part at len) none m = absurd (let z : _≡_ {A = ℕ} 0 1 = (let y = m .is in cc) in omega arith)
@@ -184,7 +184,7 @@ module _ (ws : List ℕ) (s : Starts ws) (v : Arity) (h : arityOutcome v ≡ ari
           subst (λ (o : Option def.Site). Searched o ws (length (encode (treeAt ws))) before after r) (sym sites)
           (first-found _ (map here (localRewrite w (treeAt ws))) ws n (length (encode (treeAt ws))) before after r x q f)
 
-      pub one-root : (m : ℕ) → r ≡ None m → n ≡ length (encode (treeAt (tail 2 ws))) → (d : Local)
+      pub one-root : (m : ℕ) → r ≡ None m → n ≡ length (encode (treeAt (tail 2 ws))) → (d : Decision)
           → ((x : ℕ) → Decides (part 0 (2 + m) ws) d (localRewrite x (treeAt (part 0 (2 + m) ws)))) → (a : Search) → a ≡ atRoot (2 + m) d
           → Searched (firstSite w (treeAt ws)) ws (length (encode (treeAt ws))) before after a
       one-root m f c d g a i =
@@ -271,7 +271,7 @@ module _ (ws : List ℕ) (s : Starts ws) (e : arityOf (getD ws 0 0) ≡ accepted
       pub right-found : (x : Site) → r ≡ Found x → Searched o ws (length (encode (treeAt ws))) before after r
       right-found x g = first-found _ (map here (localRewrite w (treeAt ws))) ws n (length (encode (treeAt ws))) before after r x p g
 
-      pub two-root : (m : ℕ) → r ≡ None m → n ≡ length (encode (treeAt (tail right ws))) → (d : Local)
+      pub two-root : (m : ℕ) → r ≡ None m → n ≡ length (encode (treeAt (tail right ws))) → (d : Decision)
           → Decides (part 0 (right + m) ws) d (localRewrite w (treeAt (part 0 (right + m) ws))) → (a : Search) → a ≡ atRoot (right + m) d
           → Searched o ws (length (encode (treeAt ws))) before after a
       two-root m g i d x a z =

@@ -9,15 +9,15 @@ use lib.ListN.{length, drop, getD}
 use Rattle.arith.specs.Choice.{if_then_else_}
 use Rattle.expr.specs.Expr.{Binary, Expr, binary, binaryNumber, encode}
 use Rattle.expr.specs.PartLaws.{part}
-use Rattle.rewriting.specs.Optional.{_isSome_}
+use Rattle.rewriting.specs.Optional.{_equalsSome_}
 use Rattle.rewriting.specs.AtomSimplifier as def
 use Rattle.rewriting.specs.AtomSimplifier.{constant, not, constantVal, samePart, Bitwise, and, or, xor, kindOf, arms}
 use Rattle.atom_simplifier.specs.declared.fold.ConstantVal.{ConstantVal}
 use Rattle.atom_simplifier.specs.declared.fold.ConstantVal.the-variants as val
 use Rattle.atom_simplifier.specs.declared.fold.Arm.{Arm}
 use Rattle.atom_simplifier.specs.declared.fold.Arm.the-variants as arm
-use Rattle.atom_simplifier.specs.declared.local.Local.{Local}
-use Rattle.atom_simplifier.specs.declared.local.Local.the-variants.{Nothing, Part, Constant, Join, DeMorgan}
+use Rattle.atom_simplifier.specs.declared.local.Decision.{Decision}
+use Rattle.atom_simplifier.specs.declared.local.Decision.the-variants.{Nothing, Part, Constant, Join, DeMorgan}
 use Rattle.atom_simplifier.specs.declared.search.Site.{Site}
 use Rattle.atom_simplifier.specs.declared.search.Search.{Search}
 use Rattle.atom_simplifier.specs.declared.search.Search.the-variants.{None, Found}
@@ -29,11 +29,11 @@ constantOption val.None = none
 
 -- at width w the tree is the Constant c
 unfoldable pub isConstant : ℕ → Expr → ℕ → Bool
-isConstant w t c = constantVal w t isSome c
+isConstant w t c = constantVal w t equalsSome c
 
 -- one of the two trees is
 unfoldable pub eitherConstant : ℕ → Expr → Expr → ℕ → Bool
-eitherConstant w t u c = (constantVal w t isSome c) || (constantVal w u isSome c)
+eitherConstant w t u c = (constantVal w t equalsSome c) || (constantVal w u equalsSome c)
 
 -- the folded kind of a number: And is 4, Or is 5, and the third is Xor
 abbrev pub bitwiseOf : ℕ → Bitwise
@@ -90,7 +90,7 @@ pub record Turns (ws : List ℕ) (right : ℕ) (u : Expr) : Type 0 where
   pub place : right ≡ 4 + length (encode left-operand)
 
 -- the tree that a decision about the node of these words makes
-unfoldable pub Makes : List ℕ → Local → Expr → Type 0
+unfoldable pub Makes : List ℕ → Decision → Expr → Type 0
 Makes ws Nothing u = ⊥
 Makes ws (Part at len) u = Holds ws at len u
 Makes ws (Constant c) u = u ≡ constant c
@@ -98,15 +98,15 @@ Makes ws (Join at len c) u = Joined ws at len c u
 Makes ws (DeMorgan right) u = Turns ws right u
 
 -- what the definition gives for the node is what the decision makes, and Nothing where it gives none
-unfoldable pub Meaning : List ℕ → Local → Option Expr → Type 0
+unfoldable pub Meaning : List ℕ → Decision → Option Expr → Type 0
 Meaning ws d none = d ≡ Nothing
 Meaning ws d (some u) = Makes ws d u
 
-pub record Decides (ws : List ℕ) (d : Local) (o : Option Expr) : Type 0 where
+pub record Decides (ws : List ℕ) (d : Decision) (o : Option Expr) : Type 0 where
   pub is : Meaning ws d o
 
 -- the same, in every node of the kind number k that has the part at place `from`
-pub record DecidesAt (k from : ℕ) (part : List ℕ) (d : Local) (o : Option Expr) : Type 0 where
+pub record DecidesAt (k from : ℕ) (part : List ℕ) (d : Decision) (o : Option Expr) : Type 0 where
   pub in-node : (ws : List ℕ) → Within ws from part → getD ws 0 0 ≡ k → Decides ws d o
 
 -- ---- writing
@@ -120,20 +120,20 @@ pub record Laid (before after xs : List ℕ) : Type 0 where
   pub is : after ≡ xs ++ drop (length xs) before
 
 -- the decision makes a tree, and there is room for its words
-pub record Writable (ws : List ℕ) (d : Local) (room : ℕ) : Type 0 where
+pub record Writable (ws : List ℕ) (d : Decision) (room : ℕ) : Type 0 where
   pub tree : Expr
   pub makes : Makes ws d tree
   pub fits : length (encode tree) ≤ room
 
 -- the words of the tree that the decision makes were written, n of them
-pub record Writes (ws : List ℕ) (d : Local) (before after : List ℕ) (n : ℕ) : Type 0 where
+pub record Writes (ws : List ℕ) (d : Decision) (before after : List ℕ) (n : ℕ) : Type 0 where
   pub laid : (u : Expr) → Makes ws d u → Laid before after (encode u)
   pub count : (u : Expr) → Makes ws d u → n ≡ length (encode u)
 
 -- ---- the search
 
 -- what the root is, whose children have no site: n words that stay, or a site
-abbrev pub atRoot : ℕ → Local → Search
+abbrev pub atRoot : ℕ → Decision → Search
 atRoot n Nothing = None n
 atRoot n (Part at len) = Found (record { at = 0; words = n; levels = 0; local = Part at len })
 atRoot n (Constant c) = Found (record { at = 0; words = n; levels = 0; local = Constant c })

@@ -10,7 +10,7 @@ ghost use Rattle.expr.specs.Front.{Whole, treeAt, leftOf, rightOf};
 ghost use Rattle.rewriting.specs.Optional.{_andThen_};
 ghost use Rattle.rewriting.specs.AtomSimplifier.{constant, constantVal, samePart, isNotOf, areComplements, containsOperand, and, or, xor, kindOf, constantArms, arms, foldedWord, reassociateConstant, tryFoldBinary, foldRewrite};
 ghost use Rattle.atom_simplifier.specs.Contracts.{constantOption, isConstant, eitherConstant, armTree, bitwiseOf, IsBitwise, armRewrite, Decides, DecidesAt};
-use crate::local::Local;
+use crate::local::Decision;
 use expr::Counted;
 use expr::kind;
 
@@ -230,18 +230,25 @@ fn folded_word(kind: u64, d: u64, c: u64, width: u32) -> u64
 }
 
 // The fold of the part at `from` with the constant c: what reassociation has found of the two, or else what the arms make of them.
-fn fold_constant(found: Local, kind: u64, part: &[u64], from: usize, c: u64, width: u32) -> Local
+fn fold_constant(
+    found: Decision,
+    kind: u64,
+    part: &[u64],
+    from: usize,
+    c: u64,
+    width: u32,
+) -> Decision
     requires { ⌜ Whole (now part) × IsBitwise kind × (length (now part) ≤ 1024) × (width ≤ 64) × DecidesAt kind from (now part) found (reassociateConstant width (bitwiseOf kind) (treeAt (now part)) c) ⌝ }
     ensures { λ r. ⌜ DecidesAt kind from (now (part .entry)) r (some (tryFoldBinary width (bitwiseOf kind) (treeAt (now (part .entry))) (constant c))) ⌝ }
 {
     match found {
-        Local::Nothing => {
+        Decision::Nothing => {
             let constant = [kind::CONSTANT, c];
             match fold_arms(kind, part, &constant, width) {
-                Arm::Left => Local::Part(from, part.len()),
-                Arm::Right => Local::Constant(c),
-                Arm::Constant(v) => Local::Constant(v),
-                Arm::Node => Local::Join(from, part.len(), c),
+                Arm::Left => Decision::Part(from, part.len()),
+                Arm::Right => Decision::Constant(c),
+                Arm::Constant(v) => Decision::Constant(v),
+                Arm::Node => Decision::Join(from, part.len(), c),
             }
         }
         _ => found,
@@ -250,12 +257,12 @@ fn fold_constant(found: Local, kind: u64, part: &[u64], from: usize, c: u64, wid
 
 // `(x op d) op c`, or `(d op x) op c`, as the fold of x and `d op c`; `lhs` is the inner node, at `from`. The Rust calls `try_fold_binary`
 // again here, whose right operand is then that constant.
-fn reassociate_constant(kind: u64, lhs: &[u64], from: usize, rhs_const: u64, width: u32) -> Local
+fn reassociate_constant(kind: u64, lhs: &[u64], from: usize, rhs_const: u64, width: u32) -> Decision
     requires { ⌜ Whole (now lhs) × IsBitwise kind × (from + length (now lhs) ≤ 1024) × (width ≤ 64) ⌝ }
     ensures { λ r. ⌜ DecidesAt kind from (now (lhs .entry)) r (reassociateConstant width (bitwiseOf kind) (treeAt (now (lhs .entry))) «rhs_const») ⌝ }
 {
     if lhs[0] != kind {
-        return Local::Nothing;
+        return Decision::Nothing;
     }
     let right = right_at(lhs);
     let l = &lhs[2..right];
@@ -270,35 +277,35 @@ fn reassociate_constant(kind: u64, lhs: &[u64], from: usize, rhs_const: u64, wid
         let found = reassociate_constant(kind, r, from + right, folded, width);
         return fold_constant(found, kind, r, from + right, folded, width);
     }
-    Local::Nothing
+    Decision::Nothing
 }
 
 // Reassociation of the operand x, at `from`, with the other operand y, where y is a constant.
-fn reassociate_beside(kind: u64, x: &[u64], from: usize, y: &[u64], width: u32) -> Local
+fn reassociate_beside(kind: u64, x: &[u64], from: usize, y: &[u64], width: u32) -> Decision
     requires { ⌜ Whole (now x) × Whole (now y) × IsBitwise kind × (from + length (now x) ≤ 1024) × (width ≤ 64) ⌝ }
     ensures { λ r. ⌜ DecidesAt kind from (now (x .entry)) r (constantVal width (treeAt (now (y .entry))) andThen reassociateConstant width (bitwiseOf kind) (treeAt (now (x .entry)))) ⌝ }
 {
     match constant_val(y, width) {
         ConstantVal::Word(c) => reassociate_constant(kind, x, from, c, width),
-        ConstantVal::None => Local::Nothing,
+        ConstantVal::None => Decision::Nothing,
     }
 }
 
 // What the arms make of a node, where it is another tree.
-fn fold_node_arms(node: &[u64], right: usize, width: u32) -> Local
+fn fold_node_arms(node: &[u64], right: usize, width: u32) -> Decision
     requires { ⌜ Whole (now node) × IsBitwise (getD (now node) 0 0) × (right ≡ 2 + length (encode (leftOf (treeAt (now node))))) × (length (now node) ≤ 1024) × (width ≤ 64) ⌝ }
     ensures { λ r. ⌜ Decides (now (node .entry)) r (armRewrite width (bitwiseOf (getD (now (node .entry)) 0 0)) (leftOf (treeAt (now (node .entry)))) (rightOf (treeAt (now (node .entry))))) ⌝ }
 {
     match fold_arms(node[0], &node[2..right], &node[right..], width) {
-        Arm::Left => Local::Part(2, right - 2),
-        Arm::Right => Local::Part(right, node.len() - right),
-        Arm::Constant(c) => Local::Constant(c),
-        Arm::Node => Local::Nothing,
+        Arm::Left => Decision::Part(2, right - 2),
+        Arm::Right => Decision::Part(right, node.len() - right),
+        Arm::Constant(c) => Decision::Constant(c),
+        Arm::Node => Decision::Nothing,
     }
 }
 
 // The fold of a node, where it gives another tree. One that fires is shorter than the node, so that the two need not be compared.
-pub(crate) fn try_fold_binary(node: &[u64], right: usize, width: u32) -> Local
+pub(crate) fn try_fold_binary(node: &[u64], right: usize, width: u32) -> Decision
     requires { ⌜ Whole (now node) × IsBitwise (getD (now node) 0 0) × (right ≡ 2 + length (encode (leftOf (treeAt (now node))))) × (length (now node) ≤ 1024) × (width ≤ 64) ⌝ }
     ensures { λ r. ⌜ Decides (now (node .entry)) r (foldRewrite width (bitwiseOf (getD (now (node .entry)) 0 0)) (leftOf (treeAt (now (node .entry)))) (rightOf (treeAt (now (node .entry))))) ⌝ }
 {
@@ -307,12 +314,12 @@ pub(crate) fn try_fold_binary(node: &[u64], right: usize, width: u32) -> Local
     let rhs = &node[right..];
     let found = reassociate_beside(kind, lhs, 2, rhs, width);
     match found {
-        Local::Nothing => {}
+        Decision::Nothing => {}
         _ => return found,
     }
     let found = reassociate_beside(kind, rhs, right, lhs, width);
     match found {
-        Local::Nothing => {}
+        Decision::Nothing => {}
         _ => return found,
     }
     fold_node_arms(node, right, width)

@@ -19,7 +19,7 @@ mod write;
 
 use expr::Counted;
 use expr::refusal::Refusal;
-use local::Local;
+use local::Decision;
 use search::Search;
 use search::Site;
 
@@ -76,7 +76,7 @@ pub fn local_certifiable_atom_rewrite(words: &[u64], width: u32, out: &mut [u64]
         Counted::Count(_) => {
             let decided = local::root_rewrite(words, width);
             match decided {
-                Local::Nothing => RewriteAnswer::None,
+                Decision::Nothing => RewriteAnswer::None,
                 _ => RewriteAnswer::Rewritten(
                     write::write_replacement(words, decided, width, out) / 2,
                 ),
@@ -100,7 +100,7 @@ pub fn find_first_certifiable_atom_rewrite(
             if path.len() < 63 {
                 return SiteAnswer::Refused(Refusal::OutputTooSmall);
             }
-            match search::find_at(words, width, path) {
+            match search::find_first_certifiable_atom_rewrite_at(words, width, path) {
                 Search::None(_) => SiteAnswer::None,
                 Search::Found(site) => {
                     let n = write_site(words, site, width, out);

@@ -12,7 +12,7 @@ ghost use Rattle.rewriting.specs.Optional.{map, _orElse_};
 ghost use Rattle.rewriting.specs.AtomSimplifier.{here, below, localRewrite, firstSite};
 ghost use Rattle.atom_simplifier.specs.Contracts.{atRoot, underParent, Searched};
 use crate::local;
-use crate::local::Local;
+use crate::local::Decision;
 use expr::Arity;
 
 // A site: where its words begin, how many there are, how many levels it is below the tree's root, and what it becomes.
@@ -20,7 +20,7 @@ pub(crate) struct Site {
     pub(crate) at: usize,
     pub(crate) words: usize,
     pub(crate) levels: usize,
-    pub(crate) local: Local,
+    pub(crate) local: Decision,
 }
 
 // The first site, or none and the number of the tree's words.
@@ -30,11 +30,11 @@ pub(crate) enum Search {
 }
 
 // What the root is, whose children have no site.
-fn at_root(words: usize, local: Local) -> Search
+fn at_root(words: usize, local: Decision) -> Search
     ensures { λ r. ⌜ r ≡ atRoot words local ⌝ }
 {
     match local {
-        Local::Nothing => Search::None(words),
+        Decision::Nothing => Search::None(words),
         _ => Search::Found(Site {
             at: 0,
             words,
@@ -63,7 +63,7 @@ fn find_in_child(ws: &[u64], by: usize, byte: u8, width: u32, path: &mut [u8]) -
     requires { ⌜ (1 ≤ by) × (by ≤ length (now ws)) × Starts (tail by (now ws)) × (length (now ws) ≤ 1024) × (width ≤ 64) × (depth (treeAt (tail by (now ws))) ≤ length (now path)) ⌝ }
     ensures { λ r. ⌜ Searched (map (below byte) (firstSite width (treeAt (tail by (now (ws .entry)))))) (now (ws .entry)) (length (encode (treeAt (tail by (now (ws .entry)))))) (now (path .entry)) (now (path .exit)) r ⌝ }
 {
-    match find_at(&ws[by..], width, &mut path[1..]) {
+    match find_first_certifiable_atom_rewrite_at(&ws[by..], width, &mut path[1..]) {
         Search::None(n) => Search::None(n),
         Search::Found(site) => {
             path[0] = byte;
@@ -88,7 +88,11 @@ fn find_from_right(ws: &[u64], right: usize, width: u32, path: &mut [u8]) -> Sea
 }
 
 // The tree at the front of the words.
-pub(crate) fn find_at(ws: &[u64], width: u32, path: &mut [u8]) -> Search
+pub(crate) fn find_first_certifiable_atom_rewrite_at(
+    ws: &[u64],
+    width: u32,
+    path: &mut [u8],
+) -> Search
     requires { ⌜ Starts (now ws) × (length (now ws) ≤ 1024) × (width ≤ 64) × (depth (treeAt (now ws)) ≤ length (now path) + 1) ⌝ }
     ensures { λ r. ⌜ Searched (firstSite width (treeAt (now (ws .entry)))) (now (ws .entry)) (length (encode (treeAt (now (ws .entry))))) (now (path .entry)) (now (path .exit)) r ⌝ }
 {

@@ -5,7 +5,7 @@ ghost use Prim.Native.Nat.{_+_, _≤_, _<_};
 ghost use lib.ListN.{length, getD};
 ghost use Rattle.expr.specs.PartLaws.{part};
 ghost use Rattle.atom_simplifier.specs.Contracts.{copied, dualNumber, Laid, Writable, Writes};
-use crate::local::Local;
+use crate::local::Decision;
 use expr::kind;
 
 // The only place where words are copied: as they stand, whatever the width.
@@ -69,25 +69,25 @@ fn write_de_morgan(node: &[u64], right: usize, width: u32, out: &mut [u64])
 }
 
 // The number of words that are written.
-pub(crate) fn write_replacement(node: &[u64], local: Local, width: u32, out: &mut [u64]) -> usize
+pub(crate) fn write_replacement(node: &[u64], local: Decision, width: u32, out: &mut [u64]) -> usize
     requires { ⌜ Writable (now node) local (length (now out)) × (length (now node) ≤ 1024) ⌝ }
     ensures { λ r. ⌜ Writes (now (node .entry)) local (now (out .entry)) (now (out .exit)) r ⌝ }
 {
     match local {
-        Local::Nothing => 0,
-        Local::Part(at, len) => {
+        Decision::Nothing => 0,
+        Decision::Part(at, len) => {
             copy(&node[at..at + len], width, out);
             len
         }
-        Local::Constant(c) => {
+        Decision::Constant(c) => {
             put_node(kind::CONSTANT, c, out);
             2
         }
-        Local::Join(at, len, c) => {
+        Decision::Join(at, len, c) => {
             write_join(node, at, at + len, c, width, out);
             4 + len
         }
-        Local::DeMorgan(right) => {
+        Decision::DeMorgan(right) => {
             write_de_morgan(node, right, width, out);
             2 + node.len()
         }

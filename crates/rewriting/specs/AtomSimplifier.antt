@@ -8,7 +8,7 @@ use Rattle.arith.specs.Bv.{ones, bvand, bvor, bvxor}
 use Rattle.arith.specs.Choice.{if_then_else_}
 use Rattle.expr.specs.Expr.{Constant, Variable, Unary, Not, Neg, Shr, ZExt, SExt, Trunc, Binary, Add, Mul, And, Or, Xor, Concat, Expr, leaf, unary, binary, binaryNumber, encode}
 use Rattle.expr.specs.SameWords.{sameWords}
-use Rattle.rewriting.specs.Optional.{onlyIf, map, _andThen_, _orElse_, _otherwise_, _isSome_}
+use Rattle.rewriting.specs.Optional.{onlyIf, map, _andThen_, _orElse_, _otherwise_, _equalsSome_}
 
 -- the tree of one constant, and of a Not
 abbrev pub constant : ℕ → Expr
@@ -88,18 +88,18 @@ module _ (w : ℕ) where
   -- the last arms, for the constants 0 and all ones; the node itself where none of them fits
   unfoldable pub constantArms : Bitwise → Expr → Expr → Expr
   constantArms and lhs rhs =
-      if (constantVal w rhs isSome 0) || (constantVal w lhs isSome 0) then constant 0 else
-      if constantVal w rhs isSome ones w then lhs else
-      if constantVal w lhs isSome ones w then rhs else
+      if (constantVal w rhs equalsSome 0) || (constantVal w lhs equalsSome 0) then constant 0 else
+      if constantVal w rhs equalsSome ones w then lhs else
+      if constantVal w lhs equalsSome ones w then rhs else
       binary And lhs rhs
   constantArms or lhs rhs =
-      if constantVal w rhs isSome 0 then lhs else
-      if constantVal w lhs isSome 0 then rhs else
-      if (constantVal w rhs isSome ones w) || (constantVal w lhs isSome ones w) then constant (ones w) else
+      if constantVal w rhs equalsSome 0 then lhs else
+      if constantVal w lhs equalsSome 0 then rhs else
+      if (constantVal w rhs equalsSome ones w) || (constantVal w lhs equalsSome ones w) then constant (ones w) else
       binary Or lhs rhs
   constantArms xor lhs rhs =
-      if constantVal w rhs isSome 0 then lhs else
-      if constantVal w lhs isSome 0 then rhs else
+      if constantVal w rhs equalsSome 0 then lhs else
+      if constantVal w lhs equalsSome 0 then rhs else
       binary Xor lhs rhs
 
   -- complements and absorption, and then the last arms
@@ -179,7 +179,7 @@ module _ (w : ℕ) where
   binaryRewrite Mul lhs rhs = none
   binaryRewrite And lhs rhs =
       if samePart w lhs rhs then some lhs else
-      if (constantVal w lhs isSome 3) && (constantVal w rhs isSome 1) then some (constant 1) else
+      if (constantVal w lhs equalsSome 3) && (constantVal w rhs equalsSome 1) then some (constant 1) else
       foldRewrite and lhs rhs
   binaryRewrite Or lhs rhs = if samePart w lhs rhs then some lhs else foldRewrite or lhs rhs
   binaryRewrite Xor lhs rhs = foldRewrite xor lhs rhs

@@ -7,7 +7,7 @@ use lib.Dec.{eqb}
 infixr 2 _otherwise_
 infixr 3 _orElse_
 infixl 4 _andThen_
-infix 5 _isSome_
+infix 5 _equalsSome_
 module _ {A : Type 0} where
   -- a where the test holds
   abbrev pub onlyIf : Bool → A → Option A
@@ -36,6 +36,6 @@ module _ {A B : Type 0} where
   _andThen_ (some a) f = f a
 
 -- the Rust's `== Some(c)`
-abbrev pub _isSome_ : Option ℕ → ℕ → Bool
-_isSome_ none c = false
-_isSome_ (some d) c = eqb d c
+abbrev pub _equalsSome_ : Option ℕ → ℕ → Bool
+_equalsSome_ none c = false
+_equalsSome_ (some d) c = eqb d c

@@ -11,7 +11,7 @@ use Rattle.arith.specs.Choice.{if_then_else_}
 use Rattle.arith.specs.ChoiceLaws.{if-yes}
 use Rattle.expr.specs.Expr.{Unary, Not, Neg, Shr, ZExt, SExt, Trunc, Binary, Add, Mul, And, Or, Xor, Concat, Expr, leaf, unary, binary, nodes}
 use Rattle.expr.specs.ExprLaws.{nodes-pos}
-use Rattle.rewriting.specs.Optional.{_andThen_, _orElse_, _isSome_}
+use Rattle.rewriting.specs.Optional.{_andThen_, _orElse_, _equalsSome_}
 use Rattle.rewriting.specs.OptionalLaws.{Every, if-case, every-onlyIf, every-at}
 use Rattle.rewriting.specs.AtomSimplifier.{constant, not, isNotKind, isNot, constantVal, samePart, areComplements, containsOperand, Bitwise, and, or, xor, constantArms, arms, reassociateConstant, tryFoldBinary, deMorgan, notRewrite, unaryRewrite, foldRewrite, binaryRewrite, localRewrite}
 use Rattle.rewriting.specs.TestLaws.{same-part→eq, eq→same-part}
@@ -130,24 +130,24 @@ module _ (w : ℕ) where
       if-case F (areComplements w l r) (λ h. inr (less-constant And l r 0))
       (if-case F (containsOperand w r Or l) (λ h. inr (less-left And l r))
       (if-case F (containsOperand w l Or r) (λ h. inr (less-right And l r))
-      (if-case F ((constantVal w r isSome 0) || (constantVal w l isSome 0)) (λ h. inr (less-constant And l r 0))
-      (if-case F (constantVal w r isSome ones w) (λ h. inr (less-left And l r))
-      (if-case F (constantVal w l isSome ones w) (λ h. inr (less-right And l r))
+      (if-case F ((constantVal w r equalsSome 0) || (constantVal w l equalsSome 0)) (λ h. inr (less-constant And l r 0))
+      (if-case F (constantVal w r equalsSome ones w) (λ h. inr (less-left And l r))
+      (if-case F (constantVal w l equalsSome ones w) (λ h. inr (less-right And l r))
       (inl refl))))))
   arms-folds or l r =
       let F = Folds (binary Or l r) in
       if-case F (areComplements w l r) (λ h. inr (less-constant Or l r (ones w)))
       (if-case F (containsOperand w r And l) (λ h. inr (less-left Or l r))
       (if-case F (containsOperand w l And r) (λ h. inr (less-right Or l r))
-      (if-case F (constantVal w r isSome 0) (λ h. inr (less-left Or l r))
-      (if-case F (constantVal w l isSome 0) (λ h. inr (less-right Or l r))
-      (if-case F ((constantVal w r isSome ones w) || (constantVal w l isSome ones w)) (λ h. inr (less-constant Or l r (ones w)))
+      (if-case F (constantVal w r equalsSome 0) (λ h. inr (less-left Or l r))
+      (if-case F (constantVal w l equalsSome 0) (λ h. inr (less-right Or l r))
+      (if-case F ((constantVal w r equalsSome ones w) || (constantVal w l equalsSome ones w)) (λ h. inr (less-constant Or l r (ones w)))
       (inl refl))))))
   arms-folds xor l r =
       let F = Folds (binary Xor l r) in
       if-case F (areComplements w l r) (λ h. inr (less-constant Xor l r (ones w)))
-      (if-case F (constantVal w r isSome 0) (λ h. inr (less-left Xor l r))
-      (if-case F (constantVal w l isSome 0) (λ h. inr (less-right Xor l r))
+      (if-case F (constantVal w r equalsSome 0) (λ h. inr (less-left Xor l r))
+      (if-case F (constantVal w l equalsSome 0) (λ h. inr (less-right Xor l r))
       (inl refl)))
 
   folds-folding : (op : Bitwise) → Folding w op Folds Less
@@ -201,7 +201,7 @@ module _ (w : ℕ) where
   binary-change And l r =
       let C = Every (Change (binary And l r)) in
       if-case C (samePart w l r) (λ h. less (less-left And l r))
-      (if-case C ((constantVal w l isSome 3) && (constantVal w r isSome 1)) (λ h. less (less-constant And l r 1))
+      (if-case C ((constantVal w l equalsSome 3) && (constantVal w r equalsSome 1)) (λ h. less (less-constant And l r 1))
       (fold-change and l r))
   binary-change Or l r = if-case (Every (Change (binary Or l r))) (samePart w l r) (λ h. less (less-left Or l r)) (fold-change or l r)
   binary-change Xor l r = fold-change xor l r

@@ -7,7 +7,7 @@ use mir.Facts.{and-yes}
 use Rattle.expr.specs.Expr.{Constant, Variable, Unary, Not, Neg, Shr, ZExt, SExt, Trunc, Binary, Expr, leaf, unary, binary, binaryNumber}
 use Rattle.expr.specs.KindLaws.{same-binary}
 use Rattle.expr.specs.SameWordsLaws.{same→tree, tree→same}
-use Rattle.rewriting.specs.Optional.{_isSome_}
+use Rattle.rewriting.specs.Optional.{_equalsSome_}
 use Rattle.rewriting.specs.AtomSimplifier.{constant, not, isNotKind, sameKind, constantVal, samePart, isNotOf}
 
 pub not-kind→eq : (k : Unary) → T (isNotKind k) → k ≡ Not
@@ -38,11 +38,11 @@ module _ (w : ℕ) where
       ap (λ (j : Unary). unary j t) (not-kind→eq k (p .0)) ∙ ap not (same-part→eq t inner (p .1))
   not-of→eq (binary k l r) inner h = absurd h
 
-  pub is-some→eq : (t : Expr) (c : ℕ) → T (constantVal w t isSome c) → t ≡ constant c
+  pub is-some→eq : (t : Expr) (c : ℕ) → T (constantVal w t equalsSome c) → t ≡ constant c
   is-some→eq (leaf (Constant d)) c h = ap constant (eqb→eq d c h)
   is-some→eq (leaf (Variable i)) c h = absurd h
   is-some→eq (unary k t) c h = absurd h
   is-some→eq (binary k l r) c h = absurd h
 
   pub constant-val→eq : (t : Expr) (c : ℕ) → constantVal w t ≡ some c → t ≡ constant c
-  constant-val→eq t c e = is-some→eq t c (subst (λ (o : Option ℕ). T (o isSome c)) (sym e) (eqb-refl c))
+  constant-val→eq t c e = is-some→eq t c (subst (λ (o : Option ℕ). T (o equalsSome c)) (sym e) (eqb-refl c))

@@ -15,7 +15,7 @@ use Rattle.arith.specs.BvLaws as L
 use Rattle.expr.specs.Expr.{Unary, Not, Neg, Shr, ZExt, SExt, Trunc, Binary, Add, Mul, And, Or, Xor, Concat, Expr, leaf, unary, binary}
 use Rattle.value.specs.Value.{unaryValue, binaryValue, value}
 use Rattle.value.specs.ValueLaws.{value-lt}
-use Rattle.rewriting.specs.Optional.{_isSome_}
+use Rattle.rewriting.specs.Optional.{_equalsSome_}
 use Rattle.rewriting.specs.OptionalLaws.{Every, if-case, every-onlyIf, every-at}
 use Rattle.rewriting.specs.AtomSimplifier.{constant, isNotKind, isNot, sameKind, constantVal, samePart, isNotOf, areComplements, containsOperand, Bitwise, and, or, xor, kindOf, constantArms, arms, foldedWord, tryFoldBinary, deMorgan, notRewrite, unaryRewrite, foldRewrite, binaryRewrite, localRewrite}
 use Rattle.rewriting.specs.TestLaws.{not-kind→eq, same-kind→eq, same-part→eq, not-of→eq, is-some→eq}
@@ -34,17 +34,17 @@ module _ (w : ℕ) (σ : List ℕ) where
 
   -- ---- what a test says of values
 
-  constant-val : (t : Expr) (c : ℕ) → T (constantVal w t isSome c) → val t ≡ c % 2 ^ w
+  constant-val : (t : Expr) (c : ℕ) → T (constantVal w t equalsSome c) → val t ≡ c % 2 ^ w
   unfolding value
   constant-val t c h = ap val (is-some→eq w t c h)
 
-  zero-val : (t : Expr) → T (constantVal w t isSome 0) → val t ≡ 0
+  zero-val : (t : Expr) → T (constantVal w t equalsSome 0) → val t ≡ 0
   zero-val t h = constant-val t 0 h ∙ zero-mod (2 ^ w)
 
   ones-mod : ones w % 2 ^ w ≡ ones w
   ones-mod = mod-eq-of-lt (ones-lt w)
 
-  ones-val : (t : Expr) → T (constantVal w t isSome ones w) → val t ≡ ones w
+  ones-val : (t : Expr) → T (constantVal w t equalsSome ones w) → val t ≡ ones w
   ones-val t h = constant-val t (ones w) h ∙ ones-mod
 
   complement-val : (a b : Expr) → T (areComplements w a b) → val b ≡ bvnot w (val a)
@@ -99,23 +99,23 @@ module _ (w : ℕ) (σ : List ℕ) where
     unfolding value
     or-absorbs h = let b = contains-val and r l h in sym (ap (bvor (val l)) (b .is) ∙ L.or-and w (lt l) (lt (b .other)))
 
-    and-zero : T (constantVal w r isSome 0) → Keeps (binary And l r) (constant 0)
+    and-zero : T (constantVal w r equalsSome 0) → Keeps (binary And l r) (constant 0)
     unfolding value
     and-zero h = zero-mod (2 ^ w) ∙ sym (ap (bvand (val l)) (zero-val r h) ∙ and-zero-r (val l))
 
-    or-zero : T (constantVal w r isSome 0) → Keeps (binary Or l r) l
+    or-zero : T (constantVal w r equalsSome 0) → Keeps (binary Or l r) l
     unfolding value
     or-zero h = sym (ap (bvor (val l)) (zero-val r h) ∙ or-zero-r (val l))
 
-    xor-zero : T (constantVal w r isSome 0) → Keeps (binary Xor l r) l
+    xor-zero : T (constantVal w r equalsSome 0) → Keeps (binary Xor l r) l
     unfolding value
     xor-zero h = sym (ap (bvxor (val l)) (zero-val r h) ∙ xor-zero-r (val l))
 
-    and-ones : T (constantVal w r isSome ones w) → Keeps (binary And l r) l
+    and-ones : T (constantVal w r equalsSome ones w) → Keeps (binary And l r) l
     unfolding value
     and-ones h = sym (ap (bvand (val l)) (ones-val r h) ∙ L.and-all w (lt l))
 
-    or-ones : T (constantVal w r isSome ones w) → Keeps (binary Or l r) (constant (ones w))
+    or-ones : T (constantVal w r equalsSome ones w) → Keeps (binary Or l r) (constant (ones w))
     unfolding value
     or-ones h = ones-mod ∙ sym (ap (bvor (val l)) (ones-val r h) ∙ L.or-all w (lt l))
 
@@ -128,26 +128,26 @@ module _ (w : ℕ) (σ : List ℕ) where
       if-case K (areComplements w l r) (and-complements l r)
       (if-case K (containsOperand w r Or l) (and-absorbs l r)
       (if-case K (containsOperand w l Or r) (λ h. and-absorbs r l h ∙ swap-val and l r)
-      (if-case K ((constantVal w r isSome 0) || (constantVal w l isSome 0))
-      (λ h. ⊎-elim (and-zero l r) (λ p. and-zero r l p ∙ swap-val and l r) (or-yes (constantVal w r isSome 0) (constantVal w l isSome 0) h))
-      (if-case K (constantVal w r isSome ones w) (and-ones l r)
-      (if-case K (constantVal w l isSome ones w) (λ h. and-ones r l h ∙ swap-val and l r)
+      (if-case K ((constantVal w r equalsSome 0) || (constantVal w l equalsSome 0))
+      (λ h. ⊎-elim (and-zero l r) (λ p. and-zero r l p ∙ swap-val and l r) (or-yes (constantVal w r equalsSome 0) (constantVal w l equalsSome 0) h))
+      (if-case K (constantVal w r equalsSome ones w) (and-ones l r)
+      (if-case K (constantVal w l equalsSome ones w) (λ h. and-ones r l h ∙ swap-val and l r)
       refl)))))
   arms-keep or l r =
       let K = Keeps (binary Or l r) in
       if-case K (areComplements w l r) (or-complements l r)
       (if-case K (containsOperand w r And l) (or-absorbs l r)
       (if-case K (containsOperand w l And r) (λ h. or-absorbs r l h ∙ swap-val or l r)
-      (if-case K (constantVal w r isSome 0) (or-zero l r)
-      (if-case K (constantVal w l isSome 0) (λ h. or-zero r l h ∙ swap-val or l r)
-      (if-case K ((constantVal w r isSome ones w) || (constantVal w l isSome ones w))
-      (λ h. ⊎-elim (or-ones l r) (λ p. or-ones r l p ∙ swap-val or l r) (or-yes (constantVal w r isSome ones w) (constantVal w l isSome ones w) h))
+      (if-case K (constantVal w r equalsSome 0) (or-zero l r)
+      (if-case K (constantVal w l equalsSome 0) (λ h. or-zero r l h ∙ swap-val or l r)
+      (if-case K ((constantVal w r equalsSome ones w) || (constantVal w l equalsSome ones w))
+      (λ h. ⊎-elim (or-ones l r) (λ p. or-ones r l p ∙ swap-val or l r) (or-yes (constantVal w r equalsSome ones w) (constantVal w l equalsSome ones w) h))
       refl)))))
   arms-keep xor l r =
       let K = Keeps (binary Xor l r) in
       if-case K (areComplements w l r) (xor-complements l r)
-      (if-case K (constantVal w r isSome 0) (xor-zero l r)
-      (if-case K (constantVal w l isSome 0) (λ h. xor-zero r l h ∙ swap-val xor l r)
+      (if-case K (constantVal w r equalsSome 0) (xor-zero l r)
+      (if-case K (constantVal w l equalsSome 0) (λ h. xor-zero r l h ∙ swap-val xor l r)
       refl))
 
   -- two constants as one, which reassociation makes of them
@@ -210,8 +210,8 @@ module _ (w : ℕ) (σ : List ℕ) where
   binary-keeps Mul l r = tt
   binary-keeps And l r =
       if-case (Every (Keeps (binary And l r))) (samePart w l r) (λ h. sym (ap (bvand (val l)) (sym (ap val (same-part→eq w l r h))) ∙ and-self (val l)))
-      (if-case (Every (Keeps (binary And l r))) ((constantVal w l isSome 3) && (constantVal w r isSome 1))
-      (λ h. let p = and-yes (constantVal w l isSome 3) (constantVal w r isSome 1) h in
+      (if-case (Every (Keeps (binary And l r))) ((constantVal w l equalsSome 3) && (constantVal w r equalsSome 1))
+      (λ h. let p = and-yes (constantVal w l equalsSome 3) (constantVal w r equalsSome 1) h in
       and-mod 3 1 w ∙ sym (ap₂ bvand (constant-val l 3 (p .0)) (constant-val r 1 (p .1))))
       (fold-keeps and l r))
   binary-keeps Or l r =

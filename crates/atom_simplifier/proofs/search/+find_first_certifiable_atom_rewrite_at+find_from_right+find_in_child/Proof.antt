@@ -1,4 +1,4 @@
--- `find_at`, `find_from_right` and `find_in_child` meet their contracts. The measure is three for each word that is left, and two, one and
+-- `find_first_certifiable_atom_rewrite_at`, `find_from_right` and `find_in_child` meet their contracts. The measure is three for each word that is left, and two, one and
 -- none more, as the calls on the same words come one after the other. Assumes nothing.
 use Prim.Native.Nat.{ℕ, _+_, _*_, _<_}
 use lib.ListN.{length}
@@ -6,22 +6,22 @@ use borrow.Author.Needs.{needs}
 use borrow.Fn.Kinds.{In}
 use borrow.Fn.PlainCycle.{Measures, is, falls, and}
 use Rattle.atom_simplifier.proofs.SearchLaws.{searching, fromRight, inChild}
-use Rattle.atom_simplifier.proofs.search.find_at.Reads as tree
-use Rattle.atom_simplifier.proofs.search.find_at.Kinds as tree-kinds
-use Rattle.atom_simplifier.proofs.search.+find_at+find_from_right+find_in_child.Lts-find_at as tree-lts
+use Rattle.atom_simplifier.proofs.search.find_first_certifiable_atom_rewrite_at.Reads as tree
+use Rattle.atom_simplifier.proofs.search.find_first_certifiable_atom_rewrite_at.Kinds as tree-kinds
+use Rattle.atom_simplifier.proofs.search.+find_first_certifiable_atom_rewrite_at+find_from_right+find_in_child.Lts-find_first_certifiable_atom_rewrite_at as tree-lts
 use Rattle.atom_simplifier.proofs.search.find_from_right.Reads as right
 use Rattle.atom_simplifier.proofs.search.find_from_right.Kinds as right-kinds
-use Rattle.atom_simplifier.proofs.search.+find_at+find_from_right+find_in_child.Lts-find_from_right as right-lts
+use Rattle.atom_simplifier.proofs.search.+find_first_certifiable_atom_rewrite_at+find_from_right+find_in_child.Lts-find_from_right as right-lts
 use Rattle.atom_simplifier.proofs.search.find_in_child.Reads as child
 use Rattle.atom_simplifier.proofs.search.find_in_child.Kinds as child-kinds
-use Rattle.atom_simplifier.proofs.search.+find_at+find_from_right+find_in_child.Lts-find_in_child as child-lts
+use Rattle.atom_simplifier.proofs.search.+find_first_certifiable_atom_rewrite_at+find_from_right+find_in_child.Lts-find_in_child as child-lts
 use Rattle.atom_simplifier.proofs.local.binary_rewrite.Reads as binary-rewrite
 use Rattle.atom_simplifier.proofs.local.unary_rewrite.Reads as unary-rewrite
 use Rattle.atom_simplifier.proofs.search.at_root.Reads as at-root
 use Rattle.atom_simplifier.proofs.search.under_parent.Reads as under-parent
 use Rattle.expr.proofs.arity_of.Reads as arity-of
-use Rattle.atom_simplifier.proofs.search.+find_at+find_from_right+find_in_child.{statement}
-use Rattle.atom_simplifier.proofs.search.+find_at+find_from_right+find_in_child.Tie.{close}
+use Rattle.atom_simplifier.proofs.search.+find_first_certifiable_atom_rewrite_at+find_from_right+find_in_child.{statement}
+use Rattle.atom_simplifier.proofs.search.+find_first_certifiable_atom_rewrite_at+find_from_right+find_in_child.Tie.{close}
 
 abbrev μ-tree : Measures 2 tree-kinds.ps ℕ
 μ-tree κs a = 3 * length (a .0 .now) + 2
@@ -65,8 +65,8 @@ ruleset right-rules = (needs, fromRight)
 
 ruleset child-rules = (needs, inChild)
 
-pub +find-at+find-from-right+find-in-child-spec : {M : Type 1} → statement M
-+find-at+find-from-right+find-in-child-spec = close μ-tree μ-right μ-child
+pub +find-first-certifiable-atom-rewrite-at+find-from-right+find-in-child-spec : {M : Type 1} → statement M
++find-first-certifiable-atom-rewrite-at+find-from-right+find-in-child-spec = close μ-tree μ-right μ-child
     (λ t. tree-lts.spec (tree-claims t) (tree-at t) tree.Post
     (λ c. search tree-rules)
     (λ c κs. search tree-rules)
