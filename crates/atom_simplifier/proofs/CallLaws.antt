@@ -6,8 +6,7 @@ use mathlib.Core.Option.{Option, none, some}
 use Prim.Native.Nat.{ℕ, _+_, _*_, _-_, _/_, _≤_, _<_}
 use native.Mathlib.Omega.{arith}
 use lib.Dec.{ltb}
-use lib.ListN.{length, take, drop, length-append}
-use lib.Seq.{take-at, drop-at}
+use lib.ListN.{length, length-append}
 use mir.Syntax.{w64}
 use mir.Val.{Fits}
 use borrow.Author.Tests.{lt-ltb, le-ltb, ltb-false}
@@ -40,7 +39,7 @@ use Rattle.atom_simplifier.specs.declared.search.Search.{Search}
 use Rattle.atom_simplifier.specs.declared.search.Search.the-variants.{None, Found}
 use Rattle.atom_simplifier.specs.Calls.{withRoom, admitted, localRewriteAt, firstSiteAt, written}
 use Rattle.atom_simplifier.specs.Contracts.{Makes, Decides, Writable, Writes, IsFound, siteWords, HoldsSite, Searched}
-use Rattle.atom_simplifier.proofs.DecideLaws.{is-rewrite, none-decided, some-decided}
+use Rattle.atom_simplifier.proofs.DecideLaws.{within-inside, within-part, is-rewrite, none-decided, some-decided}
 use Rattle.atom_simplifier.proofs.SearchLaws.{none-is, found-is}
 
 -- ---- `admit`
@@ -281,17 +280,10 @@ module _ (ws : List ℕ) (w bytes room : ℕ) (x : Counted) (h : countedOutcome 
         i = found .2
 
         found-inside : s .at + s .words ≤ length ws
-        found-inside =
-            let p = i .within in
-            omega (arith, ap length (p .words), length-append (p .front) (i .node ++ p .back), length-append (i .node) (p .back), p .place, i .words-is)
+        found-inside = omega (arith, within-inside ws (i .node) (s .at) (i .within), i .words-is)
 
         node-is : siteWords ws s ≡ i .node
-        node-is =
-            let p = i .within in
-            let c : s .at + s .words - s .at ≡ length (i .node) = omega (arith, i .words-is) in
-            ap (λ (v : List ℕ). take (s .at + s .words - s .at) (drop (s .at) v)) (p .words)
-            ∙ ap (take (s .at + s .words - s .at)) (drop-at (p .front) (i .node ++ p .back) (s .at) (sym (p .place)))
-            ∙ take-at (i .node) (p .back) (s .at + s .words - s .at) (sym c)
+        node-is = within-part ws (i .node) (s .at) (i .within) (s .words) (i .words-is)
 
         makes : Makes (siteWords ws s) (s .local) (found .0 .replacement)
         makes = subst (λ (v : List ℕ). Makes v (s .local) (found .0 .replacement)) (sym node-is) (i .makes)
@@ -336,4 +328,4 @@ module _ (ws : List ℕ) (w bytes room : ℕ) (x : Counted) (h : countedOutcome 
           pub site-words-written : out′ ≡ written (λ z. encode (z .replacement)) (firstSiteAt ws w bytes room) out
           site-words-written = d .laid (found .0 .replacement) makes .is ∙ sym (ap (λ (o : Outcome (Option def.Site)). written (λ z. encode (z .replacement)) o out) the-site)
 
-pub ruleset siteCall = (call-whole, call-short, call-width, site-refused, site-refused-written, path-refused, path-refused-written, call-starts, call-depth, no-site-answered, no-path-written, no-words-written, holds-site, site-path-written, site-answered, site-words-written)
+pub ruleset siteCall = (call-short, call-width, site-refused, site-refused-written, path-refused, path-refused-written, call-starts, call-depth, no-site-answered, no-path-written, no-words-written, holds-site, site-path-written, site-answered, site-words-written)

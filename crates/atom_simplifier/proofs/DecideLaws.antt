@@ -3,17 +3,20 @@ use mathlib.Core.Path.{_≡_, refl, sym, ap, subst, _∙_}
 use mathlib.Core.Logic.{⊎-elim}
 use mathlib.Core.List.{List, [], _∷_, _++_, append-assoc, append-nil}
 use mathlib.Core.Option.{Option, none, some}
-use Prim.Native.Nat.{ℕ, _+_, _-_}
+use Prim.Native.Nat.{ℕ, _+_, _-_, _≤_}
 use native.Mathlib.Omega.{arith}
-use lib.ListN.{length, getD, length-append}
+use lib.ListN.{length, take, drop, getD, length-append}
+use lib.Seq.{take-at, drop-at}
 use denote.Enum.Declared.{tagOf}
 use types.Run.{OneOf}
 use Rattle.expr.specs.Expr.{Expr, encode}
 use Rattle.expr.specs.Outcome.{accepted}
 use Rattle.expr.specs.Parse.{arityOf}
-use Rattle.expr.specs.TailLaws.{tail, length-tail}
+use Rattle.expr.specs.Parts.{tail, part}
+use Rattle.expr.specs.TailLaws.{length-tail}
 use Rattle.expr.specs.Front.{Exactly, leftOf, rightOf}
-use Rattle.expr.specs.PartLaws.{part, two-children, left-exact, right-exact}
+use Rattle.expr.specs.Parts as slice
+use Rattle.expr.specs.PartLaws.{two-children, left-exact, right-exact}
 use Rattle.atom_simplifier.specs.declared.local.Decision.{Decision}
 use Rattle.atom_simplifier.specs.declared.local.Decision.the-variants.{Nothing}
 use Rattle.atom_simplifier.proofs.local.Decision.{the-type}
@@ -63,6 +66,17 @@ module _ (ws part : List ℕ) (at : ℕ) (p : Within ws at part) where
         ∙ (let s : p .front ++ ((front ++ (inner ++ back)) ++ p .back) ≡ (p .front ++ front) ++ (inner ++ (back ++ p .back)) = simp append-assoc in s);
     place = omega (arith, p .place, length-append (p .front) front);
   }
+
+  -- it lies inside the words, and is what is cut out there
+  pub within-inside : at + length part ≤ length ws
+  within-inside = omega (arith, ap length (p .words), length-append (p .front) (part ++ p .back), length-append part (p .back), p .place)
+
+  pub within-part : (n : ℕ) → n ≡ length part → slice.part at (at + n) ws ≡ part
+  within-part n e =
+      let m : length part ≡ at + n - at = omega arith in
+      ap (λ (l : List ℕ). take (at + n - at) (drop at l)) (p .words)
+      ∙ ap (take (at + n - at)) (drop-at (p .front) (part ++ p .back) at (sym (p .place)))
+      ∙ take-at part (p .back) (at + n - at) m
 
 -- the operands of a node that is itself a part
 module _ (ws node : List ℕ) (from : ℕ) (p : Within ws from node) (t : Expr) (x : Exactly node t) (a : arityOf (getD node 0 0) ≡ accepted 2) (right : ℕ) (q : right ≡ 2 + length (encode (leftOf t))) where

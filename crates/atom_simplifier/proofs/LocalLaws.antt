@@ -22,9 +22,11 @@ use Rattle.expr.specs.Parse.{arityOf}
 use Rattle.expr.specs.Parse as kinds
 use Rattle.expr.specs.KindLaws.{number, number-arity, same-binary}
 use Rattle.expr.specs.Answers.{arityOutcome}
-use Rattle.expr.specs.TailLaws.{tail, length-tail}
+use Rattle.expr.specs.Parts.{tail, part}
+use Rattle.expr.specs.TailLaws.{length-tail}
 use Rattle.expr.specs.Front.{Exactly, treeAt, leftOf, rightOf}
-use Rattle.expr.specs.PartLaws.{part, parts, OneChild, TwoChildren, exact-tree, no-child, one-child, two-children, left-tree, right-tree}
+use Rattle.expr.specs.FrontLaws.{leaf-node, no-kind}
+use Rattle.expr.specs.PartLaws.{exact-front, parts, OneChild, TwoChildren, exact-tree, one-child, two-children, left-tree, right-tree}
 use Rattle.rewriting.specs.Optional.{onlyIf, _equalsSome_}
 use Rattle.rewriting.specs.AtomSimplifier as def
 use Rattle.rewriting.specs.AtomSimplifier.{constant, isNotKind, isNot, constantVal, samePart, Bitwise, and, or, xor, kindOf, foldRewrite, deMorgan, notRewrite, unaryRewrite, binaryRewrite, localRewrite}
@@ -32,7 +34,7 @@ use Rattle.atom_simplifier.specs.declared.local.Decision.{Decision}
 use Rattle.atom_simplifier.specs.declared.local.Decision.the-variants as local
 use Rattle.atom_simplifier.specs.Contracts.{isConstant, bitwiseOf, IsBitwise, Within, Holds, dualNumber, Makes, Decides}
 use Rattle.atom_simplifier.proofs.DecideLaws.{decides-none, decides-some, all-within, left-holds, part-within}
-use Rattle.atom_simplifier.proofs.OperandLaws.{number-not, number-bitwise, bitwise-arity, is-not-kind}
+use Rattle.atom_simplifier.proofs.OperandLaws.{arity-one, arity-two, number-not, number-bitwise, bitwise-arity, is-not-kind}
 
 -- ---- a node with one child
 
@@ -66,9 +68,6 @@ module _ (node : List ℕ) (t : Expr) (x : Exactly node t) (a : arityOf (getD no
 
   pub has-child : 2 < length node
   has-child = omega (arith, unary-length, length-encode (leftOf t), nodes-pos (leftOf t))
-
-  pub after-node : 2 ≤ length node
-  after-node = omega (arith, has-child)
 
   child-holds : Holds node 2 (length node - 2) (leftOf t)
   child-holds =
@@ -191,7 +190,6 @@ module _ (node : List ℕ) (t : Expr) (x : Exactly node t) (e : getD node 0 0 �
         let k : isNotKind (c .kind) ≡ true = is-not-kind (c .kind) ∙ eq-eqb (unaryNumber (c .kind)) 7 (sym (c .number-is) ∙ tail-word ∙ f) in
         let h = child-holds (tail 2 node) (leftOf t) child-exact a₂ in
         let m : length (tail 2 node) - 2 ≡ length node - 4 = omega (arith, length-tail 2 node) in
-        let i = part-within node node 0 (all-within node) (getD node 0 0 ∷ getD node 1 0 ∷ []) (encode (leftOf t)) [] in
         decides-some node (local.Part 4 (length node - 4)) _ (leftOf (leftOf t))
         (ap notRewrite (c .is) ∙ ap (λ (b : Bool). onlyIf b (leftOf (leftOf t))) k)
         (record { within = deeper (h .within); words = sym m ∙ h .words })
@@ -209,9 +207,6 @@ module _ (node : List ℕ) (t : Expr) (x : Exactly node t) (e : getD node 0 0 �
   module _ (f : IsBitwise (getD node 2 0)) (g : getD node 2 0 ≤ 5) where
     pub below-arity : arityOf (getD (tail 2 node) 0 0) ≡ accepted 2
     below-arity = number-bitwise (tail 2 node) (getD node 2 0) tail-word f
-
-    pub below-short : length node ≤ 1024 → length (tail 2 node) ≤ 1024
-    below-short h = omega (arith, length-tail 2 node)
 
     c : TwoChildren (tail 2 node) (leftOf t)
     c = two-children (tail 2 node) (leftOf t) child-exact below-arity
@@ -391,28 +386,16 @@ pub at-width : (node : List ℕ) (t : Expr) (r : Decision) → ((v : ℕ) → De
 at-width node t r d w = d w
 
 module _ (node : List ℕ) (t : Expr) (x : Exactly node t) (w : ℕ) (v : Arity) (h : arityOutcome v ≡ arityOf (getD node 0 0)) where
-  pub root-one : v ≡ arity.One → arityOf (getD node 0 0) ≡ accepted 1
-  root-one e = sym h ∙ ap arityOutcome e
-
-  pub root-binary : v ≡ arity.Two → arityOf (getD node 0 0) ≡ accepted 2
-  root-binary e = sym h ∙ ap arityOutcome e
-
   pub leaf-stays : v ≡ arity.Zero → Decides node local.Nothing (localRewrite w t)
   unfolding localRewrite
   leaf-stays e =
-      let l = no-child node t x (sym h ∙ ap arityOutcome e) in
+      let l = leaf-node node v h t e (exact-front node t x) in
       decides-none node local.Nothing _ (ap (localRewrite w) (l .is)) refl
 
+  -- no tree has an unknown kind
   pub no-root : (r : Refusal) → v ≡ arity.Refused r → Decides node local.Nothing (localRewrite w t)
-  unfolding encode
-  no-root r e = absurd (root-known t x)
-    where
-      told : (κ : kinds.Kind) → getD node 0 0 ≡ number κ → ⊥
-      told κ g = let z = number-arity κ in let y = ap arityOf g in let s = ap arityOutcome e in let q : _≡_ {A = ℕ} 0 1 = cc in omega arith
+  no-root r e =
+      let f = exact-front node t x in
+      no-kind node v h (record { tree = t; front = f }) r e 0 (λ u. Decides node local.Nothing (localRewrite w t)) .holds t f
 
-      root-known : (u : Expr) → Exactly node u → ⊥
-      root-known (leaf k) z = told (kinds.none k) (ap (λ (l : List ℕ). getD l 0 0) (z .words))
-      root-known (unary k u) z = told (kinds.one k) (ap (λ (l : List ℕ). getD l 0 0) (z .words))
-      root-known (binary k l r) z = told (kinds.two k) (ap (λ (l : List ℕ). getD l 0 0) (z .words))
-
-pub ruleset localRule = (parts, number-not, bitwise-arity, has-child, after-node, not-decides, other-stays, shift-stays, shift-goes, no-rule-below, double-most, double-goes, below-arity, below-short, operand-fits, left-inside, right-inside, left-not, right-not, neither-not, and-bitwise, or-bitwise, xor-bitwise, binary-stays, xor-decides, or-equal, or-decides, and-equal, and-decides, and-decides-2, three-one, at-width, root-one, root-binary, leaf-stays, no-root)
+pub ruleset localRule = (parts, number-not, bitwise-arity, has-child, not-decides, other-stays, shift-stays, shift-goes, no-rule-below, double-most, double-goes, below-arity, operand-fits, left-inside, right-inside, left-not, right-not, neither-not, and-bitwise, or-bitwise, xor-bitwise, binary-stays, xor-decides, or-equal, or-decides, and-equal, and-decides, and-decides-2, three-one, at-width, arity-one, arity-two, leaf-stays, no-root)

@@ -12,9 +12,10 @@ use Rattle.arith.specs.ChoiceLaws.{if-yes}
 use Rattle.expr.specs.Outcome.{accepted}
 use Rattle.expr.specs.Expr.{Expr, binary, encode, nodes}
 use Rattle.expr.specs.Parse.{arityOf}
-use Rattle.expr.specs.TailLaws.{tail, length-tail}
+use Rattle.expr.specs.Parts.{tail, part}
+use Rattle.expr.specs.TailLaws.{length-tail}
 use Rattle.expr.specs.Front.{Exactly, treeAt, leftOf, rightOf}
-use Rattle.expr.specs.PartLaws.{part, parts, left-exact, left-tree, right-tree, right-most}
+use Rattle.expr.specs.PartLaws.{parts, left-exact, left-tree, right-tree, right-most}
 use Rattle.rewriting.specs.Optional.{_andThen_, _orElse_, _otherwise_}
 use Rattle.rewriting.specs.AtomSimplifier.{constantVal, samePart, Bitwise, kindOf, arms, reassociateConstant, tryFoldBinary, foldRewrite}
 use Rattle.rewriting.specs.ShapeLaws.{Less, less-constant, less-left, less-right, reassociated-less, fold-fires}
@@ -64,12 +65,6 @@ module _ (node : List ℕ) (t : Expr) (x : Exactly node t) (b : IsBitwise (getD 
 
     pub second-room : right + length (tail right node) ≤ 1024
     second-room = omega (arith, length-tail right node, most)
-
-    pub first-short : length (part 2 right node) ≤ 1024
-    first-short = omega (arith, first-room)
-
-    pub second-short : length (tail right node) ≤ 1024
-    second-short = omega (arith, second-room)
 
   module _ (w : ℕ) where
     abbrev op : Bitwise
@@ -166,4 +161,4 @@ module _ (node : List ℕ) (t : Expr) (x : Exactly node t) (b : IsBitwise (getD 
           subst (λ (u : Expr). Decides node r (if samePart w u (binary (kindOf op) (leftOf t) (rightOf t)) then none else some u))
           (sym (folds none none (none-decided node d first (first-decides d h) e) (none-decided node g second second-decides f))) m
 
-pub ruleset nodeFold = (parts, is-rewrite, bitwise-arity, beside-word, beside-none, first-room, second-room, first-short, second-short, node-stays, folds-constant, folds-left, folds-right, first-found, second-found, arms-found)
+pub ruleset nodeFold = (parts, is-rewrite, bitwise-arity, beside-word, beside-none, first-room, second-room, node-stays, folds-constant, folds-left, folds-right, first-found, second-found, arms-found)

@@ -12,6 +12,8 @@ use mir.Val.{Fits}
 use borrow.Author.Tests.{ne-eqb, eq-eqb}
 use Rattle.arith.specs.Choice.{if_then_else_}
 use Rattle.expr.specs.declared.refusal.Refusal.{Refusal}
+use Rattle.expr.specs.declared.Arity.{Arity}
+use Rattle.expr.specs.declared.Arity.the-variants as arity
 use Rattle.expr.specs.declared.Counted.{Counted}
 use Rattle.expr.specs.declared.Counted.the-variants.{Count, Refused}
 use Rattle.expr.specs.Outcome.{accepted}
@@ -21,13 +23,14 @@ use Rattle.expr.specs.Parse.{arityOf, wordCountOk}
 use Rattle.expr.specs.Parse as kinds
 use Rattle.expr.specs.ParseLaws.{count-yes}
 use Rattle.expr.specs.KindLaws.{number-arity}
-use Rattle.expr.specs.Answers.{countedOutcome}
+use Rattle.expr.specs.Answers.{arityOutcome, countedOutcome}
 use Rattle.expr.specs.Span.{spanOf}
 use Rattle.expr.specs.SpanLaws.{span-encode}
 use Rattle.expr.specs.SameWords.{sameWords}
-use Rattle.expr.specs.TailLaws.{tail}
+use Rattle.expr.specs.Parts.{tail, part}
 use Rattle.expr.specs.Front.{Exactly, treeAt, leftOf, rightOf}
-use Rattle.expr.specs.PartLaws.{part, parts, TwoChildren, exact-length, no-child, one-child, two-children, child-tree, left-tree, right-tree}
+use Rattle.expr.specs.FrontLaws.{leaf-node}
+use Rattle.expr.specs.PartLaws.{exact-front, parts, TwoChildren, exact-length, one-child, two-children, child-tree, left-tree, right-tree}
 use Rattle.rewriting.specs.Optional.{_equalsSome_}
 use Rattle.rewriting.specs.AtomSimplifier.{isNotKind, constantVal, samePart, isNotOf, areComplements, containsOperand, kindOf}
 use Rattle.atom_simplifier.specs.declared.fold.ConstantVal.{ConstantVal}
@@ -35,6 +38,13 @@ use Rattle.atom_simplifier.specs.declared.fold.ConstantVal.the-variants 
 use Rattle.atom_simplifier.specs.Contracts.{constantOption, isConstant, eitherConstant, bitwiseOf, IsBitwise}
 
 -- ---- kinds by their numbers
+
+module _ (ws : List ℕ) (v : Arity) (h : arityOutcome v ≡ arityOf (getD ws 0 0)) where
+  pub arity-one : v ≡ arity.One → arityOf (getD ws 0 0) ≡ accepted 1
+  arity-one e = sym h ∙ ap arityOutcome e
+
+  pub arity-two : v ≡ arity.Two → arityOf (getD ws 0 0) ≡ accepted 2
+  arity-two e = sym h ∙ ap arityOutcome e
 
 number-none : (ws : List ℕ) → getD ws 0 0 ≡ 0 → arityOf (getD ws 0 0) ≡ accepted 0
 number-none ws e = ap arityOf e ∙ number-arity (kinds.none (Constant 0))
@@ -65,7 +75,7 @@ leaf-constant w (Variable i) = refl
 module _ (ws : List ℕ) (t : Expr) (x : Exactly ws t) (w : ℕ) where
   pub constant-word : getD ws 0 0 ≡ 0 → constantOption (val.Word (getD ws 1 0)) ≡ constantVal w t
   constant-word e =
-      let n = no-child ws t x (number-none ws e) in
+      let n = leaf-node ws arity.Zero (sym (number-none ws e)) t refl (exact-front ws t x) in
       sym (ap (constantVal w) (n .is) ∙ leaf-constant w (n .kind)
       ∙ ap (λ (b : Bool). if b then some (leafOperand (n .kind)) else none) (eq-eqb (leafNumber (n .kind)) 0 (sym (n .number-is) ∙ e))
       ∙ ap (λ (c : ℕ). some c) (sym (n .operand-is)))

@@ -11,9 +11,10 @@ use borrow.Author.Tests.{ne-eqb, eq-eqb}
 use Rattle.expr.specs.Expr.{Expr, leaf, unary, binary, binaryNumber, encode}
 use Rattle.expr.specs.Outcome.{accepted}
 use Rattle.expr.specs.Parse.{arityOf, operandOk, operandsOk}
-use Rattle.expr.specs.TailLaws.{tail, length-tail}
+use Rattle.expr.specs.Parts.{tail, part}
+use Rattle.expr.specs.TailLaws.{length-tail}
 use Rattle.expr.specs.Front.{Exactly, Whole, treeAt, leftOf, rightOf}
-use Rattle.expr.specs.PartLaws.{part, parts, exact-tree, exact-whole, exact-node, two-children, left-exact, left-tree, right-tree, right-most}
+use Rattle.expr.specs.PartLaws.{parts, exact-tree, exact-whole, exact-node, two-children, left-exact, left-tree, right-tree, right-most}
 use Rattle.rewriting.specs.Optional.{map, _orElse_, _otherwise_}
 use Rattle.rewriting.specs.AtomSimplifier.{constant, constantVal, kindOf, arms, foldedWord, reassociateConstant, tryFoldBinary}
 use Rattle.rewriting.specs.FoldLaws.{fold-again, reassociate-is}

@@ -10,27 +10,21 @@ use mir.Val.{Fits}
 use Rattle.expr.specs.Expr.{Expr, binaryNumber, encode}
 use Rattle.expr.specs.ExprLaws.{nodes-pos, length-encode}
 use Rattle.expr.specs.TailLaws.{tail-drop}
-use Rattle.expr.specs.PartLaws.{part}
+use Rattle.expr.specs.Parts.{part}
 use Rattle.rewriting.specs.AtomSimplifier.{constant, not}
 use Rattle.atom_simplifier.specs.declared.local.Decision.{Decision}
 use Rattle.atom_simplifier.specs.declared.local.Decision.the-variants.{Nothing, Part, Constant, Join, DeMorgan}
+use Rattle.atom_simplifier.proofs.DecideLaws.{within-inside, within-part}
 use Rattle.atom_simplifier.specs.Contracts.{Holds, Joined, dualNumber, Turns, Makes, copied, Laid, Writable, Writes}
 
 -- ---- a part
 
 module _ (ws : List ℕ) (at len : ℕ) (u : Expr) (h : Holds ws at len u) where
   held : part at (at + len) ws ≡ encode u
-  held =
-      let p = h .within in
-      let m : at + len - at ≡ length (encode u) = omega (arith, h .words) in
-      ap (λ (l : List ℕ). take (at + len - at) (drop at l)) (p .words)
-      ∙ ap (take (at + len - at)) (drop-at (p .front) (encode u ++ p .back) at (sym (p .place)))
-      ∙ take-at (encode u) (p .back) (at + len - at) (sym m)
+  held = within-part ws (encode u) at (h .within) len (h .words)
 
   held-inside : at + len ≤ length ws
-  held-inside =
-      let p = h .within in
-      omega (arith, ap length (p .words), length-append (p .front) (encode u ++ p .back), length-append (encode u) (p .back), p .place, h .words)
+  held-inside = omega (arith, within-inside ws (encode u) at (h .within), h .words)
 
 module _ (ws : List ℕ) (d : Decision) (room : ℕ) (w : Writable ws d room) where
   made : (e : Decision) → d ≡ e → Makes ws e (w .tree)

@@ -5,7 +5,7 @@ use mathlib.Core.List.{List, [], _∷_, _++_, append-assoc}
 use mathlib.Core.Option.{Option, none, some}
 use Prim.Native.Nat.{ℕ, suc, _+_, _*_, _-_, _≤_, _<_}
 use native.Mathlib.Omega.{arith}
-use lib.ListN.{length, take, drop, getD, set, length-append, length-take, take-append-drop}
+use lib.ListN.{length, take, drop, getD, set, length-append, take-append-drop}
 use lib.Seq.{drop-drop, length-take-le}
 use mir.Syntax.{w64}
 use mir.Val.{Fits}
@@ -20,10 +20,11 @@ use Rattle.expr.specs.Expr.{Expr, unary, binary, encode, depth}
 use Rattle.expr.specs.ExprLaws.{depth-pos, depth-nodes, length-encode}
 use Rattle.expr.specs.Parse.{arityOf}
 use Rattle.expr.specs.Answers.{arityOutcome}
-use Rattle.expr.specs.TailLaws.{tail, tail-drop, length-tail}
+use Rattle.expr.specs.Parts.{tail, part}
+use Rattle.expr.specs.TailLaws.{tail-drop, length-tail}
 use Rattle.expr.specs.Front.{Front, Starts, Whole, treeAt, leftOf}
 use Rattle.expr.specs.FrontLaws.{LeafNode, UnaryNode, BinaryNode, leaf-node, unary-node, binary-node, has-node, has-kind, child-starts, left-starts, no-kind}
-use Rattle.expr.specs.PartLaws.{part, front-tree, front-part, starts-front, exact-tree, exact-whole}
+use Rattle.expr.specs.PartLaws.{tail-short, part-short, front-tree, front-part, starts-front, exact-tree, exact-whole}
 use Rattle.rewriting.specs.Optional.{map, _orElse_}
 use Rattle.rewriting.specs.AtomSimplifier as def
 use Rattle.rewriting.specs.AtomSimplifier.{localRewrite, here, below, firstSite}
@@ -35,7 +36,9 @@ use Rattle.atom_simplifier.specs.declared.search.Search.{Search}
 use Rattle.atom_simplifier.specs.declared.search.Search.the-variants.{None, Found}
 use Rattle.atom_simplifier.specs.Contracts.{Within, Makes, Meaning, Decides, atRoot, underParent, IsFound, SearchIs, Searched}
 use Rattle.atom_simplifier.proofs.local.Decision.{the-type}
+use Rattle.atom_simplifier.proofs.DecideLaws.{within-inside}
 use Rattle.atom_simplifier.proofs.LocalLaws.{first-word}
+use Rattle.atom_simplifier.proofs.OperandLaws.{arity-two}
 use Rattle.atom_simplifier.proofs.WriteLaws.{put-tail}
 
 -- ---- `at_root`
@@ -133,9 +136,6 @@ module _ (ws : List ℕ) (s : Starts ws) where
       first : (t : Expr) → getD (encode t) 0 0 ≡ getD (encode t ++ front .rest) 0 0
       first t = sym (first-word t (front .rest))
 
-pub part-most : (ws : List ℕ) (n : ℕ) → length ws ≤ 1024 → length (part 0 n ws) ≤ 1024
-part-most ws n h = omega (arith, length-take (n - 0) ws)
-
 module _ (ws : List ℕ) (s : Starts ws) (v : Arity) (h : arityOutcome v ≡ arityOf (getD ws 0 0)) where
   -- a leaf
   module _ (e : v ≡ arity.Zero) where
@@ -198,9 +198,6 @@ module _ (ws : List ℕ) (s : Starts ws) (v : Arity) (h : arityOutcome v ≡ ari
   -- no tree has an unknown kind
   pub no-search : (r : Refusal) → v ≡ arity.Refused r → (o : Option def.Site) (n : ℕ) (before after : List ℕ) (q : Search) → Searched o ws n before after q
   no-search r e o n before after q = no-kind ws v h s r e n (λ t. Searched o ws n before after q) .holds (treeAt ws) (front ws s)
-
-  pub two-told : v ≡ arity.Two → arityOf (getD ws 0 0) ≡ accepted 2
-  two-told e = sym h ∙ ap arityOutcome e
 
 -- a node over two children
 module _ (ws : List ℕ) (s : Starts ws) (e : arityOf (getD ws 0 0) ≡ accepted 2) where
@@ -320,17 +317,11 @@ module _ (ws : List ℕ) (s : Starts ws) (e : arityOf (getD ws 0 0) ≡ accepted
             (subst (λ (u : Option def.Site). Searched u ws (length (encode (treeAt ws))) mid after y)
             (sym (both-sites (2 + m) left-place ∙ ap (λ (u : Option def.Site). u orElse map (below 1) (firstSite w (treeAt (tail (2 + m) ws))) orElse map here (localRewrite w (treeAt ws))) (none-left .0))) g)
 
-pub node-inside : (ws : List ℕ) → Starts ws → 2 ≤ length ws
-node-inside ws s = has-node ws s
-
 -- ---- `find_in_child`
 
 module _ (ws : List ℕ) (by : ℕ) where
   pub part-falls : (t : ℕ) → 3 * length ws ≡ t → 1 ≤ by → by ≤ length ws → 3 * length (tail by ws) + 2 < t
   part-falls t e f g = omega (arith, length-tail by ws)
-
-  pub part-short : length ws ≤ 1024 → length (tail by ws) ≤ 1024
-  part-short h = omega (arith, length-tail by ws)
 
   pub by-scaled : length ws ≤ 1024 → by ≤ length ws → Fits w64 (by * 8)
   by-scaled h g = omega arith
@@ -367,9 +358,7 @@ module _ (ws : List ℕ) (by : ℕ) where
       f = found-is _ (tail by ws) n (tail 1 path) q r h s e
 
       pub site-inside : by ≤ length ws → length ws ≤ 1024 → s .at + by ≤ 1024
-      site-inside g i =
-          let p = f .2 .within in
-          omega (arith, length-tail by ws, ap length (p .words), length-append (p .front) (f .2 .node ++ p .back), p .place)
+      site-inside g i = omega (arith, length-tail by ws, within-inside (tail by ws) (f .2 .node) (s .at) (f .2 .within))
 
       pub levels-most : Starts (tail by ws) → length ws ≤ 1024 → s .levels ≤ 1024
       levels-most g i =
@@ -410,8 +399,8 @@ module _ (ws : List ℕ) (by : ℕ) where
             makes = f .2 .makes;
           }
 
-pub ruleset searching = (node-inside, has-kind, child-starts, left-starts, none-words, whole-front, front-inside, part-most, leaf-searched, child-depth, one-words, one-fits, one-arity, one-found, one-root, two-told, left-depth, left-found, left-place, left-fits, mid-depth, then-right, no-search)
+pub ruleset searching = (has-node, has-kind, child-starts, left-starts, none-words, whole-front, front-inside, part-short, leaf-searched, child-depth, one-words, one-fits, one-arity, one-found, one-root, arity-two, left-depth, left-found, left-place, left-fits, mid-depth, then-right, no-search)
 
-pub ruleset fromRight = (node-inside, none-words, part-most, right-starts, right-depth, right-first, right-inside, two-inside, two-fits, two-whole, two-arity, two-place, right-found, two-root)
+pub ruleset fromRight = (has-node, none-words, part-short, right-starts, right-depth, right-first, right-inside, two-inside, two-fits, two-whole, two-arity, two-place, right-found, two-root)
 
-pub ruleset inChild = (part-falls, part-short, by-scaled, path-left, path-deep, path-written, path-long, child-none, site-inside, levels-most, child-found)
+pub ruleset inChild = (part-falls, tail-short, by-scaled, path-left, path-deep, path-written, path-long, child-none, site-inside, levels-most, child-found)

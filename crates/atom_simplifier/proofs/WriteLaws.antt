@@ -10,8 +10,8 @@ use lib.Seq.{take-at, drop-at, drop-drop, take-all, length-take-le}
 use borrow.Author.Tests.{ne-eqb}
 use borrow.Rule.Slice.PartMut.{putMid}
 use Rattle.arith.specs.Choice.{if_then_else_}
-use Rattle.expr.specs.TailLaws.{tail, tail-drop}
-use Rattle.expr.specs.PartLaws.{part}
+use Rattle.expr.specs.Parts.{tail, part}
+use Rattle.expr.specs.TailLaws.{tail-drop}
 use Rattle.atom_simplifier.specs.Contracts.{copied, dualNumber, Laid}
 
 -- ---- `copy`

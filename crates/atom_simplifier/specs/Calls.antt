@@ -31,11 +31,11 @@ firstSiteAt ws w bytes room =
 
 -- ---- what is written
 
--- the lent places with xs at their front, and as they were behind it
+-- lent places with xs at their front, and as they were behind it
 abbrev pub over : List ℕ → List ℕ → List ℕ
 over xs lent = xs ++ drop (length xs) lent
 
--- what is written of an answer is what f gives of it; nothing is where there is none, or a refusal
+-- the lent places after the call: f of the answer at their front, and unchanged where there is none or a refusal
 abbrev pub written : {A : Type 0} → (A → List ℕ) → Outcome (Option A) → List ℕ → List ℕ
 written f (refused r) lent = lent
 written f (accepted none) lent = lent

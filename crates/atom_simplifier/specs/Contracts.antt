@@ -8,10 +8,11 @@ use lib.Dec.{eqb}
 use lib.ListN.{length, drop, getD}
 use Rattle.arith.specs.Choice.{if_then_else_}
 use Rattle.expr.specs.Expr.{Binary, Expr, binary, binaryNumber, encode}
-use Rattle.expr.specs.PartLaws.{part}
+use Rattle.expr.specs.Parts.{part}
 use Rattle.rewriting.specs.Optional.{_equalsSome_}
 use Rattle.rewriting.specs.AtomSimplifier as def
 use Rattle.rewriting.specs.AtomSimplifier.{constant, not, constantVal, samePart, Bitwise, and, or, xor, kindOf, arms}
+use Rattle.atom_simplifier.specs.Calls.{over}
 use Rattle.atom_simplifier.specs.declared.fold.ConstantVal.{ConstantVal}
 use Rattle.atom_simplifier.specs.declared.fold.ConstantVal.the-variants as val
 use Rattle.atom_simplifier.specs.declared.fold.Arm.{Arm}
@@ -117,7 +118,7 @@ copied w part = part
 
 -- the words xs were written at the front, and nothing else
 pub record Laid (before after xs : List ℕ) : Type 0 where
-  pub is : after ≡ xs ++ drop (length xs) before
+  pub is : after ≡ over xs before
 
 -- the decision makes a tree, and there is room for its words
 pub record Writable (ws : List ℕ) (d : Decision) (room : ℕ) : Type 0 where
@@ -132,7 +133,7 @@ pub record Writes (ws : List ℕ) (d : Decision) (before after : List ℕ) (n : 
 
 -- ---- the search
 
--- what the root is, whose children have no site: n words that stay, or a site
+-- the answer for a root of n words whose children have no site
 abbrev pub atRoot : ℕ → Decision → Search
 atRoot n Nothing = None n
 atRoot n (Part at len) = Found (record { at = 0; words = n; levels = 0; local = Part at len })
@@ -140,9 +141,9 @@ atRoot n (Constant c) = Found (record { at = 0; words = n; levels = 0; local = C
 atRoot n (Join at len c) = Found (record { at = 0; words = n; levels = 0; local = Join at len c })
 atRoot n (DeMorgan right) = Found (record { at = 0; words = n; levels = 0; local = DeMorgan right })
 
--- a site of the child whose words begin at `by`, as its parent sees it
+-- a site of the child whose words begin at `from`, as its parent sees it
 abbrev pub underParent : ℕ → Site → Site
-underParent by s = record { at = s .at + by; words = s .words; levels = s .levels + 1; local = s .local }
+underParent from s = record { at = s .at + from; words = s .words; levels = s .levels + 1; local = s .local }
 
 -- the words hold the site's node at its place, and its path was written at the front of the lent bytes
 pub record IsFound (site : def.Site) (ws before after : List ℕ) (s : Site) : Type 0 where

@@ -304,7 +304,7 @@ fn fold_node_arms(node: &[u64], right: usize, width: u32) -> Decision
     }
 }
 
-// The fold of a node, where it gives another tree. One that fires is shorter than the node, so that the two need not be compared.
+// The fold of a node, where it gives another tree. Such a tree has fewer nodes (ShapeLaws, `reassociated-less`), so that the two are not compared.
 pub(crate) fn try_fold_binary(node: &[u64], right: usize, width: u32) -> Decision
     requires { ⌜ Whole (now node) × IsBitwise (getD (now node) 0 0) × (right ≡ 2 + length (encode (leftOf (treeAt (now node))))) × (length (now node) ≤ 1024) × (width ≤ 64) ⌝ }
     ensures { λ r. ⌜ Decides (now (node .entry)) r (foldRewrite width (bitwiseOf (getD (now (node .entry)) 0 0)) (leftOf (treeAt (now (node .entry)))) (rightOf (treeAt (now (node .entry))))) ⌝ }

@@ -21,7 +21,7 @@ pub(crate) enum Decision {
     Constant(u64),
     // The node's own kind over a part, by place and length, and a constant.
     Join(usize, usize, u64),
-    // A Not over an And or Or is turned over; the place of the right operand.
+    // De Morgan's law for a Not over an And or Or: the place of the right operand.
     DeMorgan(usize),
 }
 

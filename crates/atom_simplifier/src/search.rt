@@ -6,7 +6,7 @@ ghost use lib.ListN.{length, getD};
 ghost use Rattle.expr.specs.Outcome.{accepted};
 ghost use Rattle.expr.specs.Expr.{encode, depth};
 ghost use Rattle.expr.specs.Parse.{arityOf};
-ghost use Rattle.expr.specs.TailLaws.{tail};
+ghost use Rattle.expr.specs.Parts.{tail};
 ghost use Rattle.expr.specs.Front.{Starts, treeAt};
 ghost use Rattle.rewriting.specs.Optional.{map, _orElse_};
 ghost use Rattle.rewriting.specs.AtomSimplifier.{here, below, localRewrite, firstSite};
@@ -29,7 +29,7 @@ pub(crate) enum Search {
     Found(Site),
 }
 
-// What the root is, whose children have no site.
+// The answer for a root whose children have no site.
 fn at_root(words: usize, local: Decision) -> Search
     ensures { λ r. ⌜ r ≡ atRoot words local ⌝ }
 {
@@ -44,30 +44,30 @@ fn at_root(words: usize, local: Decision) -> Search
     }
 }
 
-// A child's site, as its parent sees it; the child's words begin at `by`.
-fn under_parent(site: Site, by: usize) -> Site
-    requires { ⌜ (site .at + by ≤ 1024) × (site .levels ≤ 1024) ⌝ }
-    ensures { λ r. ⌜ r ≡ underParent by site ⌝ }
+// A child's site, as its parent sees it; the child's words begin at `from`.
+fn under_parent(site: Site, from: usize) -> Site
+    requires { ⌜ (site .at + from ≤ 1024) × (site .levels ≤ 1024) ⌝ }
+    ensures { λ r. ⌜ r ≡ underParent from site ⌝ }
 {
     let local = site.local;
     Site {
-        at: site.at + by,
+        at: site.at + from,
         words: site.words,
         levels: site.levels + 1,
         local,
     }
 }
 
-// The child whose words begin at `by`. The path to a site is written once it is found, from its last byte to its first.
-fn find_in_child(ws: &[u64], by: usize, byte: u8, width: u32, path: &mut [u8]) -> Search
-    requires { ⌜ (1 ≤ by) × (by ≤ length (now ws)) × Starts (tail by (now ws)) × (length (now ws) ≤ 1024) × (width ≤ 64) × (depth (treeAt (tail by (now ws))) ≤ length (now path)) ⌝ }
-    ensures { λ r. ⌜ Searched (map (below byte) (firstSite width (treeAt (tail by (now (ws .entry)))))) (now (ws .entry)) (length (encode (treeAt (tail by (now (ws .entry)))))) (now (path .entry)) (now (path .exit)) r ⌝ }
+// The child whose words begin at `from`. The path to a site is written once it is found, from its last byte to its first.
+fn find_in_child(ws: &[u64], from: usize, byte: u8, width: u32, path: &mut [u8]) -> Search
+    requires { ⌜ (1 ≤ from) × (from ≤ length (now ws)) × Starts (tail from (now ws)) × (length (now ws) ≤ 1024) × (width ≤ 64) × (depth (treeAt (tail from (now ws))) ≤ length (now path)) ⌝ }
+    ensures { λ r. ⌜ Searched (map (below byte) (firstSite width (treeAt (tail from (now (ws .entry)))))) (now (ws .entry)) (length (encode (treeAt (tail from (now (ws .entry)))))) (now (path .entry)) (now (path .exit)) r ⌝ }
 {
-    match find_first_certifiable_atom_rewrite_at(&ws[by..], width, &mut path[1..]) {
+    match find_first_certifiable_atom_rewrite_at(&ws[from..], width, &mut path[1..]) {
         Search::None(n) => Search::None(n),
         Search::Found(site) => {
             path[0] = byte;
-            Search::Found(under_parent(site, by))
+            Search::Found(under_parent(site, from))
         }
     }
 }

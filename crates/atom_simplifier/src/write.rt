@@ -3,7 +3,7 @@ ghost use mathlib.Core.Path.{_≡_};
 ghost use mathlib.Core.List.{[], _∷_, _++_};
 ghost use Prim.Native.Nat.{_+_, _≤_, _<_};
 ghost use lib.ListN.{length, getD};
-ghost use Rattle.expr.specs.PartLaws.{part};
+ghost use Rattle.expr.specs.Parts.{part};
 ghost use Rattle.atom_simplifier.specs.Contracts.{copied, dualNumber, Laid, Writable, Writes};
 use crate::local::Decision;
 use expr::kind;
@@ -49,7 +49,7 @@ fn write_join(node: &[u64], at: usize, end: usize, c: u64, width: u32, out: &mut
     put_node(kind::CONSTANT, c, &mut out[last..]);
 }
 
-// A Not over the operand from `at` up to `end`, behind the words that are written already.
+// A Not over the operand from `at` up to `end`.
 fn write_not(node: &[u64], at: usize, end: usize, width: u32, out: &mut [u64])
     requires { ⌜ (at ≤ end) × (end ≤ length (now node)) × (2 + end ≤ length (now out) + at) ⌝ }
     ensures { λ r. ⌜ Laid (now (out .entry)) (now (out .exit)) ((7 ∷ 0 ∷ []) ++ copied width (part at end (now (node .entry)))) ⌝ }
@@ -68,7 +68,7 @@ fn write_de_morgan(node: &[u64], right: usize, width: u32, out: &mut [u64])
     write_not(node, right, node.len(), width, &mut out[right..]);
 }
 
-// The number of words that are written.
+// Writes what the decision makes of the node, and answers how many words that is.
 pub(crate) fn write_replacement(node: &[u64], local: Decision, width: u32, out: &mut [u64]) -> usize
     requires { ⌜ Writable (now node) local (length (now out)) × (length (now node) ≤ 1024) ⌝ }
     ensures { λ r. ⌜ Writes (now (node .entry)) local (now (out .entry)) (now (out .exit)) r ⌝ }

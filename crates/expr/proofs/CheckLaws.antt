@@ -21,7 +21,8 @@ use Rattle.expr.specs.ExprLaws.{length-encode}
 use Rattle.expr.specs.Parse.{Kind, none, one, two, arity, nodeKind, children, node, subtree}
 use Rattle.expr.specs.ParseLaws.{node-read, Begins, subtree-sound}
 use Rattle.expr.specs.Answers.{arityOutcome, countedOutcome}
-use Rattle.expr.specs.TailLaws.{tail, tail-drop, length-tail}
+use Rattle.expr.specs.Parts.{tail}
+use Rattle.expr.specs.TailLaws.{tail-drop, length-tail}
 
 abbrev pub count : Expr × List ℕ → ℕ
 count p = nodes (p .0)

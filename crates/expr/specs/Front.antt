@@ -53,13 +53,13 @@ pub record Exactly (ws : List ℕ) (t : Expr) : Type 0 where
 abbrev pub Whole : List ℕ → Type 0
 Whole ws = Exactly ws (treeAt ws)
 
--- a node's first child; a tree without one stands for it
+-- a node's first child; the tree itself where it has none
 abbrev pub leftOf : Expr → Expr
 leftOf (leaf k) = leaf k
 leftOf (unary k t) = t
 leftOf (binary k l r) = l
 
--- a node's second child; a tree without one stands for it
+-- a node's second child; the tree itself where it has none
 abbrev pub rightOf : Expr → Expr
 rightOf (leaf k) = leaf k
 rightOf (unary k t) = unary k t

@@ -24,7 +24,8 @@ use Rattle.expr.specs.ParseLaws.{parse-sound}
 use Rattle.expr.specs.KindLaws.{number, number-arity}
 use Rattle.expr.specs.Answers.{arityOutcome, countedOutcome}
 use Rattle.expr.specs.Front.{Front, Starts, Spans, Read, Gives}
-use Rattle.expr.specs.TailLaws.{tail, tail-drop, length-tail}
+use Rattle.expr.specs.Parts.{tail}
+use Rattle.expr.specs.TailLaws.{tail-drop, length-tail}
 
 -- ---- the tree at the front
 

@@ -4,6 +4,7 @@ pub mod Expr
 pub mod ExprUtils
 pub mod Parse
 pub mod Span
+pub mod Parts
 pub mod Front
 pub mod SameWords
 pub mod Answers

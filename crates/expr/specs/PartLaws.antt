@@ -3,21 +3,27 @@ use mathlib.Core.Path.{_≡_, refl, sym, ap, subst, _∙_}
 use mathlib.Core.List.{List, [], _∷_, _++_, append-nil}
 use Prim.Native.Nat.{ℕ, _+_, _*_, _-_, _≤_, _<_}
 use native.Mathlib.Omega.{arith}
-use lib.ListN.{length, take, drop, getD, length-append}
+use lib.ListN.{length, take, drop, getD, length-append, length-take, length-drop}
 use lib.Seq.{take-at, drop-at}
 use mir.Facts.{and-yes}
 use Rattle.expr.specs.Outcome.{accepted}
-use Rattle.expr.specs.Expr.{Leaf, Unary, Binary, Expr, leaf, unary, binary, leafNumber, leafOperand, unaryNumber, unaryOperand, binaryNumber, encode, nodes, depth}
+use Rattle.expr.specs.Expr.{Unary, Binary, Expr, leaf, unary, binary, unaryNumber, unaryOperand, binaryNumber, encode, nodes, depth}
 use Rattle.expr.specs.ExprLaws.{nodes-pos, depth-nodes, length-encode}
 use Rattle.expr.specs.Parse.{Kind, none, one, two, arity, arityOf, operandOk, operandsOk, subtree}
 use Rattle.expr.specs.ParseLaws.{subtree-encode}
 use Rattle.expr.specs.KindLaws.{number, operand, number-arity}
 use Rattle.expr.specs.Front.{Front, Starts, orZero, treeAt, Exactly, Whole, leftOf, rightOf}
-use Rattle.expr.specs.TailLaws.{tail, tail-drop, length-tail}
+use Rattle.expr.specs.Parts.{tail, part}
+use Rattle.expr.specs.TailLaws.{tail-drop, length-tail}
 
--- the part `&ws[a..e]`, as a call is handed it
-abbrev pub part : ℕ → ℕ → List ℕ → List ℕ
-part a e ws = take (e - a) (drop a ws)
+-- ---- a part is no longer than the words
+
+module _ (ws : List ℕ) (m : ℕ) (h : length ws ≤ m) where
+  pub tail-short : (a : ℕ) → length (tail a ws) ≤ m
+  tail-short a = omega (arith, length-tail a ws)
+
+  pub part-short : (a e : ℕ) → length (part a e ws) ≤ m
+  part-short a e = omega (arith, length-take (e - a) (drop a ws), length-drop a ws)
 
 -- ---- the tree is known by its words
 
@@ -60,13 +66,6 @@ starts-front ws s = subst (Front ws) (sym (front-tree ws (s .tree) (s .front))) 
 
 -- ---- a node, as its arity tells
 
--- a leaf: its two words
-pub record NoChild (ws : List ℕ) (t : Expr) : Type 0 where
-  pub kind : Leaf
-  pub is : t ≡ leaf kind
-  pub number-is : getD ws 0 0 ≡ leafNumber kind
-  pub operand-is : getD ws 1 0 ≡ leafOperand kind
-
 -- a node over one child: its two words, and the child's after them
 pub record OneChild (ws : List ℕ) (t : Expr) : Type 0 where
   pub kind : Unary
@@ -88,17 +87,6 @@ module _ (ws : List ℕ) where
   -- a tree's first word asks for as many children as the tree has
   arity-told : (κ : Kind) (vs : List ℕ) (n : ℕ) → ws ≡ number κ ∷ operand κ ∷ vs → arityOf (getD ws 0 0) ≡ accepted n → n ≡ arity κ
   arity-told κ vs n e a = let f = ap (λ (l : List ℕ). arityOf (getD l 0 0)) e in let g = number-arity κ in cc
-
-  pub no-child : (t : Expr) → Exactly ws t → arityOf (getD ws 0 0) ≡ accepted 0 → NoChild ws t
-  unfolding encode
-  no-child (leaf k) x a = record {
-    kind = k;
-    is = refl;
-    number-is = ap (λ (l : List ℕ). getD l 0 0) (x .words);
-    operand-is = ap (λ (l : List ℕ). getD l 1 0) (x .words);
-  }
-  no-child (unary k t) x a = absurd (omega (arith, arity-told (one k) (encode t) 0 (x .words) a))
-  no-child (binary k l r) x a = absurd (omega (arith, arity-told (two k) (encode l ++ encode r) 0 (x .words) a))
 
   pub one-child : (t : Expr) → Exactly ws t → arityOf (getD ws 0 0) ≡ accepted 1 → OneChild ws t
   unfolding encode operandsOk
@@ -185,4 +173,4 @@ module _ (ws : List ℕ) (t : Expr) (x : Exactly ws t) where
     pub right-shorter : (m : ℕ) → length ws ≡ m → length (tail right ws) < m
     right-shorter m f = omega (arith, right-within, length-tail right ws)
 
-pub ruleset parts = (left-shorter, right-shorter, exact-kind, exact-operand, exact-node, exact-whole, child-whole, left-whole, right-whole, right-within, right-most)
+pub ruleset parts = (tail-short, part-short, left-shorter, right-shorter, exact-kind, exact-operand, exact-node, exact-whole, child-whole, left-whole, right-whole, right-within, right-most)

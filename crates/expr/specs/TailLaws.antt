@@ -3,12 +3,9 @@ use mathlib.Core.Path.{_≡_, ap, _∙_}
 use mathlib.Core.List.{List}
 use Prim.Native.Nat.{ℕ, _-_}
 use native.Mathlib.Omega.{arith}
-use lib.ListN.{length, take, drop, length-drop}
+use lib.ListN.{length, drop, length-drop}
 use lib.Seq.{take-all}
-
--- as a call is handed it
-abbrev pub tail : ℕ → List ℕ → List ℕ
-tail a ws = take (length ws - a) (drop a ws)
+use Rattle.expr.specs.Parts.{tail}
 
 pub tail-drop : (a : ℕ) (ws : List ℕ) → tail a ws ≡ drop a ws
 tail-drop a ws = take-all (length ws - a) (drop a ws) (omega (arith, length-drop a ws))

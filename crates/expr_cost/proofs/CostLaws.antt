@@ -17,7 +17,8 @@ use Rattle.expr.specs.Parse.{arityOf}
 use Rattle.expr.specs.declared.Arity.{Arity}
 use Rattle.expr.specs.declared.Arity.the-variants.{Zero, One, Two}
 use Rattle.expr.specs.Answers.{arityOutcome}
-use Rattle.expr.specs.TailLaws.{tail, length-tail}
+use Rattle.expr.specs.Parts.{tail}
+use Rattle.expr.specs.TailLaws.{length-tail}
 use Rattle.expr.specs.Front.{Front, Starts, Read, Gives}
 use Rattle.expr.specs.FrontLaws.{leaf-node, unary-node, binary-node, right-front}
 use Rattle.expr_cost.specs.declared.CostInfo.{CostInfo}

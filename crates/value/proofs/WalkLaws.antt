@@ -22,7 +22,7 @@ use Rattle.expr.specs.Parse.{arityOf, parse}
 use Rattle.expr.specs.ParseLaws.{parse-sound}
 use Rattle.expr.specs.Answers.{arityOutcome, countedOutcome, verdictOutcome}
 use Rattle.expr.specs.Front.{Front, Starts, Read, Gives}
-use Rattle.expr.specs.TailLaws.{tail}
+use Rattle.expr.specs.Parts.{tail}
 use Rattle.expr.specs.FrontLaws.{leaf-node, unary-node, binary-node, right-front, parse-front}
 use Rattle.width.specs.Width.{supported, isUniformWidth}
 use Rattle.width.specs.WidthLaws.{in-range, too-narrow, too-wide}

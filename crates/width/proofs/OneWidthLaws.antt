@@ -13,7 +13,7 @@ use Rattle.expr.specs.Expr.{Leaf, Constant, Variable, Unary, Not, Neg, Shr, ZEx
 use Rattle.expr.specs.Parse.{arityOf}
 use Rattle.expr.specs.Answers.{arityOutcome}
 use Rattle.expr.specs.Front.{Front, Read, Gives}
-use Rattle.expr.specs.TailLaws.{tail}
+use Rattle.expr.specs.Parts.{tail}
 use Rattle.expr.specs.FrontLaws.{leaf-node, unary-node, binary-node, right-front}
 use Rattle.width.specs.Width.{unaryKeeps, binaryKeeps, isUniformWidth}
 

@@ -19,7 +19,7 @@ use Rattle.expr.specs.KindLaws.{unary-operand}
 use Rattle.expr.specs.Parse.{arityOf, parse}
 use Rattle.expr.specs.Answers.{arityOutcome, countedOutcome}
 use Rattle.expr.specs.Front.{Front, Starts, Read}
-use Rattle.expr.specs.TailLaws.{tail}
+use Rattle.expr.specs.Parts.{tail}
 use Rattle.expr.specs.FrontLaws.{leaf-node, unary-node, binary-node, right-front, parse-front, IsTree, is-tree}
 use Rattle.width.specs.declared.Widths.{Widths}
 use Rattle.width.specs.Width.{supported, ranged, checkedWidthOf, orZero, widthOf, validateWidths}
