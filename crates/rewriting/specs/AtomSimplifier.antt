@@ -167,11 +167,13 @@ unaryRewrite (SExt n) t = none
 unaryRewrite (Trunc n) t = none
 
 module _ (w : ℕ) where
-  -- the fold, where it gives another tree than the node
+  -- the tree u, where it is another than the node
+  unfoldable pub unlessSame : Expr → Expr → Option Expr
+  unlessSame node u = if samePart w u node then none else some u
+
+  -- the fold of the node
   unfoldable pub foldRewrite : Bitwise → Expr → Expr → Option Expr
-  foldRewrite op lhs rhs =
-      let folded = tryFoldBinary w op lhs rhs in
-      if samePart w folded (binary (kindOf op) lhs rhs) then none else some folded
+  foldRewrite op lhs rhs = unlessSame (binary (kindOf op) lhs rhs) (tryFoldBinary w op lhs rhs)
 
   -- a node with two children: equal operands of And or Or are one; And(3, 1) is 1; else the fold's
   unfoldable pub binaryRewrite : Binary → Expr → Expr → Option Expr

@@ -1,19 +1,18 @@
 -- What the local rewrite does to the shape of a tree: it cuts the tree down, or it is a step of De Morgan's laws. Assumes nothing.
 use mathlib.Core.Path.{_≡_, refl, sym, subst, ap}
 use mathlib.Core.Logic.{_⊎_, inl, inr}
-use mathlib.Core.Bool.{Bool, true, false, _&&_, _||_}
+use mathlib.Core.Bool.{_&&_, _||_}
 use mathlib.Core.Option.{none, some}
 use Prim.Native.Nat.{ℕ, _+_, _≤_, _<_}
 use native.Mathlib.Omega.{arith}
-use lib.Dec.{T, eqb}
+use lib.Dec.{T, not-T, eqb}
 use Rattle.arith.specs.Bv.{ones}
-use Rattle.arith.specs.Choice.{if_then_else_}
-use Rattle.arith.specs.ChoiceLaws.{if-yes}
+use Rattle.arith.specs.ChoiceLaws.{if-yes, if-no}
 use Rattle.expr.specs.Expr.{Unary, Not, Neg, Shr, ZExt, SExt, Trunc, Binary, Add, Mul, And, Or, Xor, Concat, Expr, leaf, unary, binary, nodes}
 use Rattle.expr.specs.ExprLaws.{nodes-pos}
 use Rattle.rewriting.specs.Optional.{_andThen_, _orElse_, _equalsSome_}
 use Rattle.rewriting.specs.OptionalLaws.{Every, if-case, every-onlyIf, every-at}
-use Rattle.rewriting.specs.AtomSimplifier.{constant, not, isNotKind, isNot, constantVal, samePart, areComplements, containsOperand, Bitwise, and, or, xor, constantArms, arms, reassociateConstant, tryFoldBinary, deMorgan, notRewrite, unaryRewrite, foldRewrite, binaryRewrite, localRewrite}
+use Rattle.rewriting.specs.AtomSimplifier.{constant, not, isNotKind, isNot, constantVal, samePart, areComplements, containsOperand, Bitwise, and, or, xor, constantArms, arms, reassociateConstant, tryFoldBinary, deMorgan, notRewrite, unaryRewrite, unlessSame, foldRewrite, binaryRewrite, localRewrite}
 use Rattle.rewriting.specs.TestLaws.{same-part→eq, eq→same-part}
 use Rattle.rewriting.specs.FoldLaws.{node, Folding, at-reassociation, at-fold}
 
@@ -164,33 +163,22 @@ module _ (w : ℕ) where
   pub reassociated-less : (op : Bitwise) (l r u : Expr) → (constantVal w r andThen reassociateConstant w op l orElse constantVal w l andThen reassociateConstant w op r) ≡ some u → Less (node op l r) u
   reassociated-less op l r u e = every-at (Less (node op l r)) (constantVal w r andThen reassociateConstant w op l orElse constantVal w l andThen reassociateConstant w op r) (at-reassociation w op (folds-folding op) l r) e
 
-  -- the fold rewrites where it gives less, and does not where it gives the node
-  module _ (op : Bitwise) (l r : Expr) where
-    pub fold-fires : (u : Expr) → tryFoldBinary w op l r ≡ u → Less (node op l r) u → foldRewrite w op l r ≡ some u
-    unfolding foldRewrite
-    fold-fires u e h = subst (λ (s : Expr). (if samePart w s (node op l r) then none else some s) ≡ some u) (sym e) (go (samePart w u (node op l r)) refl)
-      where
-        go : (b : Bool) → samePart w u (node op l r) ≡ b → (if b then none else some u) ≡ some u
-        go true f = absurd (omega (arith, h .fewer, ap nodes (same-part→eq w u (node op l r) (subst T (sym f) tt))))
-        go false f = refl
+  -- a tree that is less than the node is another than it
+  pub unless-less : (t u : Expr) → Less t u → unlessSame w t u ≡ some u
+  unfolding unlessSame
+  unless-less t u h = if-no (samePart w u t) none (some u) (not-T (samePart w u t) (λ p. omega (arith, h .fewer, ap nodes (same-part→eq w u t p))))
 
-    pub fold-stays : tryFoldBinary w op l r ≡ node op l r → foldRewrite w op l r ≡ none
-    unfolding foldRewrite
-    fold-stays e = if-yes (samePart w (tryFoldBinary w op l r) (node op l r)) _ _ (eq→same-part w (tryFoldBinary w op l r) (node op l r) e)
+  pub unless-same : (t u : Expr) → u ≡ t → unlessSame w t u ≡ none
+  unfolding unlessSame
+  unless-same t u e = if-yes (samePart w u t) none (some u) (eq→same-part w u t e)
 
   fold-change : (op : Bitwise) (l r : Expr) → Every (Change (node op l r)) (foldRewrite w op l r)
   unfolding foldRewrite
-  fold-change op l r = go (at-fold w op (folds-folding op) l r)
+  fold-change op l r = go (tryFoldBinary w op l r) (at-fold w op (folds-folding op) l r)
     where
-      C : Expr → Type 0
-      C = Change (node op l r)
-
-      folded : Expr
-      folded = tryFoldBinary w op l r
-
-      go : Folds (node op l r) folded → Every C (foldRewrite w op l r)
-      go (inl e) = subst (Every C) (sym (fold-stays op l r e)) tt
-      go (inr h) = subst (Every C) (sym (fold-fires op l r folded refl h)) (less h)
+      go : (u : Expr) → Folds (node op l r) u → Every (Change (node op l r)) (unlessSame w (node op l r) u)
+      go u (inl e) = subst (Every (Change (node op l r))) (sym (unless-same (node op l r) u e)) tt
+      go u (inr h) = subst (Every (Change (node op l r))) (sym (unless-less (node op l r) u h)) (less h)
 
   -- ---- the local rewrite of a node with two
 

@@ -17,7 +17,7 @@ use Rattle.value.specs.Value.{unaryValue, binaryValue, value}
 use Rattle.value.specs.ValueLaws.{value-lt}
 use Rattle.rewriting.specs.Optional.{_equalsSome_}
 use Rattle.rewriting.specs.OptionalLaws.{Every, if-case, every-onlyIf, every-at}
-use Rattle.rewriting.specs.AtomSimplifier.{constant, isNotKind, isNot, sameKind, constantVal, samePart, isNotOf, areComplements, containsOperand, Bitwise, and, or, xor, kindOf, constantArms, arms, foldedWord, tryFoldBinary, deMorgan, notRewrite, unaryRewrite, foldRewrite, binaryRewrite, localRewrite}
+use Rattle.rewriting.specs.AtomSimplifier.{constant, isNotKind, isNot, sameKind, constantVal, samePart, isNotOf, areComplements, containsOperand, Bitwise, and, or, xor, kindOf, constantArms, arms, foldedWord, tryFoldBinary, deMorgan, notRewrite, unaryRewrite, unlessSame, foldRewrite, binaryRewrite, localRewrite}
 use Rattle.rewriting.specs.TestLaws.{not-kind→eq, same-kind→eq, same-part→eq, not-of→eq, is-some→eq}
 use Rattle.rewriting.specs.FoldLaws.{node, Folding, at-fold}
 
@@ -169,7 +169,7 @@ module _ (w : ℕ) (σ : List ℕ) where
   }
 
   fold-keeps : (op : Bitwise) (l r : Expr) → Every (Keeps (node op l r)) (foldRewrite w op l r)
-  unfolding foldRewrite
+  unfolding foldRewrite unlessSame
   fold-keeps op l r =
       if-case (Every (Keeps (node op l r))) (samePart w (tryFoldBinary w op l r) (node op l r)) (λ h. tt)
       (at-fold w op (keeps-folding op) l r)
