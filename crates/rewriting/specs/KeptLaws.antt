@@ -1,19 +1,23 @@
--- What a rewrite keeps: the value, one width, and that no variable comes in. Assumes nothing.
-use mathlib.Core.Path.{_≡_, refl, ap}
-use mathlib.Core.Bool.{true, _&&_, and-eq-true-iff}
+-- What a rewrite keeps: the value, one width, operands in range, a setting that is long enough; and no variable comes in. Assumes nothing.
+use mathlib.Core.Path.{_≡_, refl, sym, ap, subst, _∙_}
+use mathlib.Core.Bool.{Bool, true, _&&_, and-eq-true-iff}
 use mathlib.Core.List.{List}
 use mathlib.Core.Option.{some}
 use Prim.Native.Nat.{ℕ, _≤_}
-use native.Mathlib.Nat.{le-refl}
+use native.Mathlib.Nat.{le-refl, le-trans}
 use native.Mathlib.Omega.{arith}
-use Rattle.expr.specs.Expr.{Unary, Not, Binary, Expr, unary, binary}
-use Rattle.value.specs.Value.{unaryValue, binaryValue, value}
+use lib.Dec.{T}
+use lib.Ieee.Bits.{is-true}
+use Rattle.expr.specs.Expr.{Unary, Not, Binary, And, Or, Expr, unary, binary, unaryNumber, unaryOperand, nodes}
+use Rattle.expr.specs.Parse.{operandOk, operandsOk, Valid}
+use Rattle.value.specs.Value.{unaryValue, binaryValue, value, isLent}
 use Rattle.width.specs.Width.{unaryKeeps, binaryKeeps, isUniformWidth}
-use Rattle.rewriting.specs.AtomSimplifier.{not, localRewrite, firstRewrite}
+use Rattle.rewriting.specs.AtomSimplifier.{constant, not, localRewrite, firstRewrite}
 use Rattle.rewriting.specs.Measures.{occurrences}
 use Rattle.rewriting.specs.ValueKeptLaws.{local-keeps}
 use Rattle.rewriting.specs.ShapeLaws.{_⊑_, to-constant, as-it-is, child, left, right, both, swapped, in-turn, Dual, and-or, or-and, over, Change, less, turned-over, Adds, cut-counts, local-change}
 use Rattle.rewriting.specs.SiteLaws.{Rises, at-first}
+use Rattle.rewriting.specs.MeasureLaws.{first-lowers}
 
 -- ---- the value
 
@@ -55,65 +59,111 @@ variables-rise w = record {
 pub first-variables : (w : ℕ) (t u : Expr) → firstRewrite w t ≡ some u → (i : ℕ) → occurrences i u ≤ occurrences i t
 first-variables w = at-first w (variables-rise w)
 
--- ---- one width
+-- ---- what holds of every node
 
-dual-keeps : {k j : Binary} → Dual k j → binaryKeeps j ≡ true
-dual-keeps and-or = refl
-dual-keeps or-and = refl
+-- f holds of a tree exactly if it holds of every leaf and each kind of the tree passes a test; constants, Not, And and Or always do
+record Everywhere (f : Expr → Bool) : Type 0 where
+  in-constant : (c : ℕ) → f (constant c) ≡ true
+  one : Unary → Bool
+  two : Binary → Bool
+  in-unary : (k : Unary) (t : Expr) → f (unary k t) ≡ (one k && f t)
+  in-binary : (k : Binary) (l r : Expr) → f (binary k l r) ≡ (two k && (f l && f r))
+  not-passes : one Not ≡ true
+  and-passes : two And ≡ true
+  or-passes : two Or ≡ true
 
-module _ (widths : List ℕ) (v : ℕ) where
-  abbrev Uniform : Expr → Type 0
-  Uniform t = isUniformWidth widths v t ≡ true
+module _ {f : Expr → Bool} (p : Everywhere f) where
+  -- f of a node, and of its kind and children
+  under-one : (k : Unary) (t : Expr) → f (unary k t) ≡ true → (p .one k ≡ true) × (f t ≡ true)
+  under-one k t h = and-eq-true-iff (p .one k) (f t) .0 (sym (p .in-unary k t) ∙ h)
 
-  -- a node is of one width exactly if its kind keeps the width and its children are of one width
-  under-one : (k : Unary) (t : Expr) → Uniform (unary k t) → (unaryKeeps k ≡ true) × Uniform t
-  unfolding isUniformWidth
-  under-one k t h = and-eq-true-iff (unaryKeeps k) (isUniformWidth widths v t) .0 h
+  over-one : (k : Unary) (t : Expr) → p .one k ≡ true → f t ≡ true → f (unary k t) ≡ true
+  over-one k t h g = p .in-unary k t ∙ and-eq-true-iff (p .one k) (f t) .1 (h, g)
 
-  over-one : (k : Unary) (t : Expr) → unaryKeeps k ≡ true → Uniform t → Uniform (unary k t)
-  unfolding isUniformWidth
-  over-one k t h p = and-eq-true-iff (unaryKeeps k) (isUniformWidth widths v t) .1 (h, p)
-
-  under-two : (k : Binary) (l r : Expr) → Uniform (binary k l r) → (binaryKeeps k ≡ true) × Uniform l × Uniform r
-  unfolding isUniformWidth
+  under-two : (k : Binary) (l r : Expr) → f (binary k l r) ≡ true → (p .two k ≡ true) × (f l ≡ true) × (f r ≡ true)
   under-two k l r h =
-      let p = and-eq-true-iff (binaryKeeps k) (isUniformWidth widths v l && isUniformWidth widths v r) .0 h in
-      let q = and-eq-true-iff (isUniformWidth widths v l) (isUniformWidth widths v r) .0 (p .1) in
-      (p .0, q .0, q .1)
+      let a = and-eq-true-iff (p .two k) (f l && f r) .0 (sym (p .in-binary k l r) ∙ h) in
+      let b = and-eq-true-iff (f l) (f r) .0 (a .1) in
+      (a .0, b .0, b .1)
 
-  over-two : (k : Binary) (l r : Expr) → binaryKeeps k ≡ true → Uniform l → Uniform r → Uniform (binary k l r)
-  unfolding isUniformWidth
-  over-two k l r h p q =
-      and-eq-true-iff (binaryKeeps k) (isUniformWidth widths v l && isUniformWidth widths v r) .1
-      (h, and-eq-true-iff (isUniformWidth widths v l) (isUniformWidth widths v r) .1 (p, q))
+  over-two : (k : Binary) (l r : Expr) → p .two k ≡ true → f l ≡ true → f r ≡ true → f (binary k l r) ≡ true
+  over-two k l r h a b = p .in-binary k l r ∙ and-eq-true-iff (p .two k) (f l && f r) .1 (h, and-eq-true-iff (f l) (f r) .1 (a, b))
 
-  cut-uniform : {t u : Expr} → u ⊑ t → Uniform t → Uniform u
-  unfolding isUniformWidth
-  cut-uniform to-constant h = refl
-  cut-uniform as-it-is h = h
-  cut-uniform (child {k} {t}) h = under-one k t h .1
-  cut-uniform (left {k} {l} {r}) h = under-two k l r h .1
-  cut-uniform (right {k} {l} {r}) h = under-two k l r h .2
-  cut-uniform (both {k} {u = x} {v = y} {l} {r} f g) h = let p = under-two k l r h in over-two k x y (p .0) (cut-uniform f (p .1)) (cut-uniform g (p .2))
-  cut-uniform (swapped {k} {l} {r}) h = let p = under-two k l r h in over-two k r l (p .0) (p .2) (p .1)
-  cut-uniform (in-turn f g) h = cut-uniform f (cut-uniform g h)
+  cut-everywhere : {t u : Expr} → u ⊑ t → f t ≡ true → f u ≡ true
+  cut-everywhere (to-constant {c}) h = p .in-constant c
+  cut-everywhere as-it-is h = h
+  cut-everywhere (child {k} {t}) h = under-one k t h .1
+  cut-everywhere (left {k} {l} {r}) h = under-two k l r h .1
+  cut-everywhere (right {k} {l} {r}) h = under-two k l r h .2
+  cut-everywhere (both {k} {u} {v} {l} {r} a b) h =
+      let q = under-two k l r h in
+      over-two k u v (q .0) (cut-everywhere a (q .1)) (cut-everywhere b (q .2))
+  cut-everywhere (swapped {k} {l} {r}) h = let q = under-two k l r h in over-two k r l (q .0) (q .2) (q .1)
+  cut-everywhere (in-turn a b) h = cut-everywhere a (cut-everywhere b h)
 
-  change-uniform : {t u : Expr} → Change t u → Uniform t → Uniform u
-  change-uniform (less c) h = cut-uniform (c .cut) h
-  change-uniform (turned-over (over {k} {j} {a} {b} d n)) h =
-      let p = under-two k a b (under-one Not (binary k a b) h .1) in
-      over-two j (not a) (not b) (dual-keeps d) (over-one Not a refl (p .1)) (over-one Not b refl (p .2))
+  dual-passes : {k j : Binary} → Dual k j → p .two j ≡ true
+  dual-passes and-or = p .or-passes
+  dual-passes or-and = p .and-passes
 
-  pub local-uniform : (w : ℕ) (t u : Expr) → localRewrite w t ≡ some u → isUniformWidth widths v t ≡ true → isUniformWidth widths v u ≡ true
-  local-uniform w t u e = change-uniform (local-change w t u e)
+  change-everywhere : {t u : Expr} → Change t u → f t ≡ true → f u ≡ true
+  change-everywhere (less c) h = cut-everywhere (c .cut) h
+  change-everywhere (turned-over (over {k} {j} {a} {b} d n)) h =
+      let q = under-two k a b (under-one Not (binary k a b) h .1) in
+      over-two j (not a) (not b) (dual-passes d) (over-one Not a (p .not-passes) (q .1)) (over-one Not b (p .not-passes) (q .2))
 
-  uniform-rises : (w : ℕ) → Rises w (λ (t u : Expr). Uniform t → Uniform u)
-  uniform-rises w = record {
-    here = local-uniform w;
-    above = λ k t u f h. let p = under-one k t h in over-one k u (p .0) (f (p .1));
-    left = λ k l r u f h. let p = under-two k l r h in over-two k u r (p .0) (f (p .1)) (p .2);
-    right = λ k l r u f h. let p = under-two k l r h in over-two k l u (p .0) (p .1) (f (p .2));
+  local-everywhere : (w : ℕ) (t u : Expr) → localRewrite w t ≡ some u → f t ≡ true → f u ≡ true
+  local-everywhere w t u e = change-everywhere (local-change w t u e)
+
+  everywhere-rises : (w : ℕ) → Rises w (λ (t u : Expr). f t ≡ true → f u ≡ true)
+  everywhere-rises w = record {
+    here = local-everywhere w;
+    above = λ k t u g h. let q = under-one k t h in over-one k u (q .0) (g (q .1));
+    left = λ k l r u g h. let q = under-two k l r h in over-two k u r (q .0) (g (q .1)) (q .2);
+    right = λ k l r u g h. let q = under-two k l r h in over-two k l u (q .0) (q .1) (g (q .2));
   }
 
-  pub first-uniform : (w : ℕ) (t u : Expr) → firstRewrite w t ≡ some u → isUniformWidth widths v t ≡ true → isUniformWidth widths v u ≡ true
-  first-uniform w = at-first w (uniform-rises w)
+  first-everywhere : (w : ℕ) (t u : Expr) → firstRewrite w t ≡ some u → f t ≡ true → f u ≡ true
+  first-everywhere w = at-first w (everywhere-rises w)
+
+-- ---- one width, operands in range, and a setting with a word for each variable
+
+uniform-everywhere : (widths : List ℕ) (v : ℕ) → Everywhere (isUniformWidth widths v)
+unfolding isUniformWidth
+uniform-everywhere widths v = record { in-constant = λ c. refl; one = unaryKeeps; two = binaryKeeps; in-unary = λ k t. refl; in-binary = λ k l r. refl; not-passes = refl; and-passes = refl; or-passes = refl }
+
+operands-everywhere : Everywhere operandsOk
+unfolding operandsOk operandOk
+operands-everywhere = record { in-constant = λ c. refl; one = λ k. operandOk (unaryNumber k) (unaryOperand k); two = λ k. true; in-unary = λ k t. refl; in-binary = λ k l r. refl; not-passes = refl; and-passes = refl; or-passes = refl }
+
+lent-everywhere : (σ : List ℕ) → Everywhere (isLent σ)
+unfolding isLent
+lent-everywhere σ = record { in-constant = λ c. refl; one = λ k. true; two = λ k. true; in-unary = λ k t. refl; in-binary = λ k l r. refl; not-passes = refl; and-passes = refl; or-passes = refl }
+
+module _ (w : ℕ) (t u : Expr) where
+  module _ (e : localRewrite w t ≡ some u) where
+    pub local-uniform : (widths : List ℕ) (v : ℕ) → isUniformWidth widths v t ≡ true → isUniformWidth widths v u ≡ true
+    local-uniform widths v = local-everywhere (uniform-everywhere widths v) w t u e
+
+    pub local-operands : operandsOk t ≡ true → operandsOk u ≡ true
+    local-operands = local-everywhere operands-everywhere w t u e
+
+    pub local-lent : (σ : List ℕ) → isLent σ t ≡ true → isLent σ u ≡ true
+    local-lent σ = local-everywhere (lent-everywhere σ) w t u e
+
+  module _ (e : firstRewrite w t ≡ some u) where
+    pub first-uniform : (widths : List ℕ) (v : ℕ) → isUniformWidth widths v t ≡ true → isUniformWidth widths v u ≡ true
+    first-uniform widths v = first-everywhere (uniform-everywhere widths v) w t u e
+
+    pub first-operands : operandsOk t ≡ true → operandsOk u ≡ true
+    first-operands = first-everywhere operands-everywhere w t u e
+
+    pub first-lent : (σ : List ℕ) → isLent σ t ≡ true → isLent σ u ≡ true
+    first-lent σ = first-everywhere (lent-everywhere σ) w t u e
+
+    -- the limits of document 01, of which a rewrite can break the number of nodes alone
+    pub first-valid : Valid t → nodes u ≤ 512 → Valid u
+    first-valid h n = record {
+      count = n;
+      levels = le-trans (first-lowers w t u e .no-deeper) (h .levels);
+      operands = subst T (sym (first-operands (is-true (operandsOk t) (h .operands)))) tt;
+    }
