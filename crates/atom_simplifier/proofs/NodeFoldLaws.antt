@@ -1,25 +1,20 @@
 -- `try_fold_binary`: the fold of a node, from its words. Assumes nothing.
 use mathlib.Core.Path.{_≡_, refl, sym, ap, ap₂, subst, _∙_}
-use mathlib.Core.Bool.{Bool, true, false}
 use mathlib.Core.List.{List}
 use mathlib.Core.Option.{Option, none, some}
 use Prim.Native.Nat.{ℕ, _+_, _-_, _≤_}
 use native.Mathlib.Omega.{arith}
-use lib.Dec.{T}
 use lib.ListN.{length, getD}
-use Rattle.arith.specs.Choice.{if_then_else_}
-use Rattle.arith.specs.ChoiceLaws.{if-yes}
 use Rattle.expr.specs.Outcome.{accepted}
-use Rattle.expr.specs.Expr.{Expr, binary, encode, nodes}
+use Rattle.expr.specs.Expr.{Expr, binary, encode}
 use Rattle.expr.specs.Parse.{arityOf}
 use Rattle.expr.specs.Parts.{tail, part}
 use Rattle.expr.specs.TailLaws.{length-tail}
 use Rattle.expr.specs.Front.{Exactly, treeAt, leftOf, rightOf}
 use Rattle.expr.specs.PartLaws.{parts, left-exact, left-tree, right-tree, right-most}
 use Rattle.rewriting.specs.Optional.{_andThen_, _orElse_, _otherwise_}
-use Rattle.rewriting.specs.AtomSimplifier.{constantVal, samePart, Bitwise, kindOf, arms, reassociateConstant, tryFoldBinary, foldRewrite}
-use Rattle.rewriting.specs.ShapeLaws.{Less, less-constant, less-left, less-right, reassociated-less, fold-fires}
-use Rattle.rewriting.specs.TestLaws.{same-part→eq, eq→same-part}
+use Rattle.rewriting.specs.AtomSimplifier.{constantVal, unlessSame, Bitwise, kindOf, arms, reassociateConstant, tryFoldBinary, foldRewrite}
+use Rattle.rewriting.specs.ShapeLaws.{Less, less-constant, less-left, less-right, reassociated-less, unless-less, unless-same}
 use Rattle.atom_simplifier.specs.declared.fold.ConstantVal.{ConstantVal}
 use Rattle.atom_simplifier.specs.declared.fold.ConstantVal.the-variants as val
 use Rattle.atom_simplifier.specs.declared.fold.Arm.{Arm}
@@ -43,14 +38,6 @@ module _ (k from : ℕ) (x : List ℕ) (w : ℕ) (t u : Expr) (v : ConstantVal) 
       record { in-node = λ ws p i. decides-none ws Nothing _ (ap (λ (o : Option ℕ). o andThen reassociateConstant w (bitwiseOf k) t) n) refl }
 
 -- ---- the arms
-
--- a tree with fewer nodes is another one
-less-other : (w : ℕ) (t u : Expr) → Less t u → samePart w u t ≡ false
-less-other w t u h = go (samePart w u t) refl
-  where
-    go : (b : Bool) → samePart w u t ≡ b → b ≡ false
-    go true e = absurd (omega (arith, h .fewer, ap nodes (same-part→eq w u t (subst T (sym e) tt))))
-    go false e = refl
 
 module _ (node : List ℕ) (t : Expr) (x : Exactly node t) (b : IsBitwise (getD node 0 0)) (right : ℕ) (q : right ≡ 2 + length (encode (leftOf t))) where
   a : arityOf (getD node 0 0) ≡ accepted 2
@@ -82,18 +69,13 @@ module _ (node : List ℕ) (t : Expr) (x : Exactly node t) (b : IsBitwise (getD 
 
       fires : (y : Arm) → v ≡ y → Less (binary (kindOf op) (leftOf t) (rightOf t)) (armTree op (leftOf t) (rightOf t) y)
           → (r : Decision) → Makes node r (armTree op (leftOf t) (rightOf t) y) → Decides node r (armRewrite w op (leftOf t) (rightOf t))
-      unfolding armRewrite
       fires y k less r m =
           let u = armTree op (leftOf t) (rightOf t) y in
           let n = binary (kindOf op) (leftOf t) (rightOf t) in
-          decides-some node r _ u
-          (ap (λ (s : Expr). if samePart w s n then none else some s) (arms-are y k) ∙ ap (λ (c : Bool). if c then none else some u) (less-other w n u less)) m
+          decides-some node r _ u (ap (unlessSame w n) (arms-are y k) ∙ unless-less w n u less) m
 
       pub node-stays : v ≡ arm.Node → Decides node Nothing (armRewrite w op (leftOf t) (rightOf t))
-      unfolding armRewrite
-      node-stays k =
-          let n = binary (kindOf op) (leftOf t) (rightOf t) in
-          decides-none node Nothing _ (if-yes (samePart w (arms w op (leftOf t) (rightOf t)) n) _ _ (eq→same-part w _ n (arms-are arm.Node k))) refl
+      node-stays k = decides-none node Nothing _ (unless-same w (binary (kindOf op) (leftOf t) (rightOf t)) (arms w op (leftOf t) (rightOf t)) (arms-are arm.Node k)) refl
 
       pub folds-constant : (c : ℕ) → v ≡ arm.Constant c → Decides node (Constant c) (armRewrite w op (leftOf t) (rightOf t))
       unfolding Makes
@@ -129,10 +111,11 @@ module _ (node : List ℕ) (t : Expr) (x : Exactly node t) (b : IsBitwise (getD 
 
     -- what reassociation gives is the fold, and less than the node
     reassociated : (u : Expr) → (first orElse second) ≡ some u → foldRewrite w op (leftOf t) (rightOf t) ≡ some u
+    unfolding foldRewrite
     reassociated u e =
-        fold-fires w op (leftOf t) (rightOf t) u
-        (folds first second refl refl ∙ ap (λ (o : Option Expr). o otherwise arms w op (leftOf t) (rightOf t)) e)
-        (reassociated-less w op (leftOf t) (rightOf t) u (ap₂ (λ (y z : Option Expr). y orElse z) (sym first-is) (sym second-is) ∙ e))
+        let n = binary (kindOf op) (leftOf t) (rightOf t) in
+        ap (unlessSame w n) (folds first second refl refl ∙ ap (λ (o : Option Expr). o otherwise arms w op (leftOf t) (rightOf t)) e)
+        ∙ unless-less w n u (reassociated-less w op (leftOf t) (rightOf t) u (ap₂ (λ (y z : Option Expr). y orElse z) (sym first-is) (sym second-is) ∙ e))
 
     module _ (d : Decision) (h : DecidesAt (getD node 0 0) 2 (part 2 right node) d first) where
       first-decides : Decides node d first
@@ -156,9 +139,9 @@ module _ (node : List ℕ) (t : Expr) (x : Exactly node t) (b : IsBitwise (getD 
 
       pub arms-found : g ≡ Nothing → (d : Decision) → DecidesAt (getD node 0 0) 2 (part 2 right node) d first → d ≡ Nothing
           → (r : Decision) → Decides node r (armRewrite w op (leftOf t) (rightOf t)) → Decides node r (foldRewrite w op (leftOf t) (rightOf t))
-      unfolding foldRewrite armRewrite
+      unfolding foldRewrite
       arms-found f d h e r m =
-          subst (λ (u : Expr). Decides node r (if samePart w u (binary (kindOf op) (leftOf t) (rightOf t)) then none else some u))
+          subst (λ (u : Expr). Decides node r (unlessSame w (binary (kindOf op) (leftOf t) (rightOf t)) u))
           (sym (folds none none (none-decided node d first (first-decides d h) e) (none-decided node g second second-decides f))) m
 
 pub ruleset nodeFold = (parts, is-rewrite, bitwise-arity, beside-word, beside-none, first-room, second-room, node-stays, folds-constant, folds-left, folds-right, first-found, second-found, arms-found)

@@ -5,13 +5,13 @@ use mathlib.Core.List.{List, _++_}
 use mathlib.Core.Option.{Option, none, some}
 use Prim.Native.Nat.{ℕ, _+_, _≤_}
 use lib.Dec.{eqb}
-use lib.ListN.{length, drop, getD}
+use lib.ListN.{length, getD}
 use Rattle.arith.specs.Choice.{if_then_else_}
 use Rattle.expr.specs.Expr.{Binary, Expr, binary, binaryNumber, encode}
 use Rattle.expr.specs.Parts.{part}
 use Rattle.rewriting.specs.Optional.{_equalsSome_}
 use Rattle.rewriting.specs.AtomSimplifier as def
-use Rattle.rewriting.specs.AtomSimplifier.{constant, not, constantVal, samePart, Bitwise, and, or, xor, kindOf, arms}
+use Rattle.rewriting.specs.AtomSimplifier.{constant, not, constantVal, unlessSame, Bitwise, and, or, xor, kindOf, arms}
 use Rattle.atom_simplifier.specs.Calls.{over}
 use Rattle.atom_simplifier.specs.declared.fold.ConstantVal.{ConstantVal}
 use Rattle.atom_simplifier.specs.declared.fold.ConstantVal.the-variants as val
@@ -51,9 +51,9 @@ armTree op t u arm.Right = u
 armTree op t u (arm.Constant c) = constant c
 armTree op t u arm.Node = binary (kindOf op) t u
 
--- what the arms make of the operands, where it is not the node itself
-unfoldable pub armRewrite : ℕ → Bitwise → Expr → Expr → Option Expr
-armRewrite w op t u = if samePart w (arms w op t u) (binary (kindOf op) t u) then none else some (arms w op t u)
+-- what the arms make of the operands, where it is another tree than the node
+abbrev pub armRewrite : ℕ → Bitwise → Expr → Expr → Option Expr
+armRewrite w op t u = unlessSame w (binary (kindOf op) t u) (arms w op t u)
 
 -- the part stands in the words, from place `at` on
 pub record Within (ws : List ℕ) (at : ℕ) (part : List ℕ) : Type 0 where
