@@ -227,18 +227,22 @@ module _ (w : ℕ) where
       map (binary k l) (firstRewrite r) orElse
       localRewrite w (binary k l r)
 
--- the subtree at the end of a path; a path that leaves the tree stops
-unfoldable pub subtreeAt : List ℕ → Expr → Expr
-subtreeAt [] t = t
-subtreeAt (i ∷ path) (leaf k) = leaf k
-subtreeAt (i ∷ path) (unary k t) = subtreeAt path t
+-- the subtree at the end of a path; none where the tree has no such path
+unfoldable pub subtreeAt : List ℕ → Expr → Option Expr
+subtreeAt [] t = some t
+subtreeAt (i ∷ path) (leaf k) = none
+subtreeAt (zero ∷ path) (unary k t) = subtreeAt path t
+subtreeAt (suc i ∷ path) (unary k t) = none
 subtreeAt (zero ∷ path) (binary k l r) = subtreeAt path l
-subtreeAt (suc i ∷ path) (binary k l r) = subtreeAt path r
+subtreeAt (suc zero ∷ path) (binary k l r) = subtreeAt path r
+subtreeAt (suc (suc i) ∷ path) (binary k l r) = none
 
--- the tree with that subtree replaced
-unfoldable pub replaceAt : List ℕ → Expr → Expr → Expr
-replaceAt [] new t = new
-replaceAt (i ∷ path) new (leaf k) = leaf k
-replaceAt (i ∷ path) new (unary k t) = unary k (replaceAt path new t)
-replaceAt (zero ∷ path) new (binary k l r) = binary k (replaceAt path new l) r
-replaceAt (suc i ∷ path) new (binary k l r) = binary k l (replaceAt path new r)
+-- the whole tree with a new tree in place of that subtree; none likewise
+unfoldable pub replaceAt : List ℕ → Expr → Expr → Option Expr
+replaceAt [] new t = some new
+replaceAt (i ∷ path) new (leaf k) = none
+replaceAt (zero ∷ path) new (unary k t) = map (unary k) (replaceAt path new t)
+replaceAt (suc i ∷ path) new (unary k t) = none
+replaceAt (zero ∷ path) new (binary k l r) = map (λ u. binary k u r) (replaceAt path new l)
+replaceAt (suc zero ∷ path) new (binary k l r) = map (binary k l) (replaceAt path new r)
+replaceAt (suc (suc i) ∷ path) new (binary k l r) = none

@@ -73,11 +73,6 @@ change-step : {t u : Expr} → Change t u → DeMorganStep t u ⊎ LowerStep t u
 change-step (less h) = inr (lower-step h)
 change-step (turned-over h) = inl (de-morgan-step h)
 
--- of both
-step-nodes : {t u : Expr} → DeMorganStep t u ⊎ LowerStep t u → nodes u ≤ nodes t + 1
-step-nodes (inl h) = omega arith
-step-nodes (inr h) = omega arith
-
 step-depth : {t u : Expr} → DeMorganStep t u ⊎ LowerStep t u → depth u ≤ depth t
 step-depth (inl h) = h .no-deeper
 step-depth (inr h) = h .no-deeper
@@ -86,16 +81,13 @@ module _ (w : ℕ) (t u : Expr) (e : localRewrite w t ≡ some u) where
   pub local-steps : DeMorganStep t u ⊎ LowerStep t u
   local-steps = change-step (local-change w t u e)
 
-  pub local-nodes : nodes u ≤ nodes t + 1
-  local-nodes = step-nodes local-steps
-
   pub local-depth : depth u ≤ depth t
   local-depth = step-depth local-steps
 
 -- ---- the rewrite at the first site
 
--- nodes and twice D fall, so that rewriting ends; nodes and D, which bound the trees on the way, do not rise, nor do the And and Or nodes,
--- D and the depth
+-- the number of nodes plus twice D falls, so that rewriting ends; the number of nodes plus D, which bounds the trees on the way, does not
+-- rise, nor do the number of And and Or nodes, D and the depth
 pub record Lower (t u : Expr) : Type 0 where
   pub falls : nodes u + 2 * D u < nodes t + 2 * D t
   pub room : nodes u + D u ≤ nodes t + D t

@@ -1,5 +1,5 @@
 -- What holds of every arm of a choice holds of the choice: by these laws a theorem goes through a definition arm by arm. Assumes nothing.
-use mathlib.Core.Path.{_≡_, refl, subst}
+use mathlib.Core.Path.{_≡_, refl, sym, subst}
 use mathlib.Core.Bool.{Bool, true, false}
 use mathlib.Core.Option.{Option, none, some}
 use lib.Dec.{T}
@@ -44,7 +44,39 @@ module _ {A B : Type 0} (P : B → Type 0) where
   every-andThen none f h = tt
   every-andThen (some a) f h = h a refl
 
-module _ {A B : Type 0} (P : A → Type 0) (Q : B → Type 0) where
-  pub every-map-on : (o : Option A) {f : A → B} → ((a : A) → P a → Q (f a)) → Every P o → Every Q (map f o)
-  every-map-on none g h = tt
-  every-map-on (some a) g h = g a h
+-- both are there and P holds of the two, or neither is there
+abbrev pub Both : {A B : Type 0} → (A → B → Type 0) → Option A → Option B → Type 0
+Both P none none = Unit
+Both P none (some b) = ⊥
+Both P (some a) none = ⊥
+Both P (some a) (some b) = P a b
+
+module _ {A B : Type 0} (P : A → B → Type 0) where
+  pub both-orElse : (o o′ : Option A) (p p′ : Option B) → Both P o p → Both P o′ p′ → Both P (o orElse o′) (p orElse p′)
+  both-orElse none o′ none p′ f g = g
+  both-orElse none o′ (some b) p′ f g = absurd f
+  both-orElse (some a) o′ none p′ f g = absurd f
+  both-orElse (some a) o′ (some b) p′ f g = f
+
+  pub both-on : {C D : Type 0} (Q : C → D → Type 0) (o : Option A) (p : Option B) {f : A → C} {g : B → D} → ((a : A) (b : B) → P a b → Q (f a) (g b)) → Both P o p → Both Q (map f o) (map g p)
+  both-on Q none none h e = tt
+  both-on Q none (some b) h e = absurd e
+  both-on Q (some a) none h e = absurd e
+  both-on Q (some a) (some b) h e = h a b e
+
+  pub both-andThen : (o : Option A) (p : Option B) (f : A → Option B) → ((a : A) (b : B) → P a b → f a ≡ some b) → Both P o p → p ≡ (o andThen f)
+  both-andThen none none f h e = refl
+  both-andThen none (some b) f h e = absurd e
+  both-andThen (some a) none f h e = absurd e
+  both-andThen (some a) (some b) f h e = sym (h a b e)
+
+  -- each of the two
+  pub both-first : (Q : A → Type 0) (o : Option A) (p : Option B) → ((a : A) (b : B) → P a b → Q a) → Both P o p → Every Q o
+  both-first Q none p h e = tt
+  both-first Q (some a) none h e = absurd e
+  both-first Q (some a) (some b) h e = h a b e
+
+  pub both-second : (Q : B → Type 0) (o : Option A) (p : Option B) → ((a : A) (b : B) → P a b → Q b) → Both P o p → Every Q p
+  both-second Q o none h e = tt
+  both-second Q none (some b) h e = absurd e
+  both-second Q (some a) (some b) h e = h a b e

@@ -203,3 +203,11 @@ module _ (w : ℕ) where
 
   pub local-change : (t u : Expr) → localRewrite w t ≡ some u → Change t u
   local-change t u e = every-at (Change t) (localRewrite w t) (root-change t) e
+
+  pub local-nodes : (t u : Expr) → localRewrite w t ≡ some u → nodes u ≤ nodes t + 1
+  unfolding nodes
+  local-nodes t u e = go (local-change t u e)
+    where
+      go : {t u : Expr} → Change t u → nodes u ≤ nodes t + 1
+      go (less h) = omega (arith, h .fewer)
+      go (turned-over (over d h)) = omega arith
