@@ -1,12 +1,12 @@
 -- The two public calls: what is checked, answered and written. Assumes nothing.
 use mathlib.Core.Path.{_≡_, refl, sym, ap, ap₂, subst, _∙_}
 use mathlib.Core.Bool.{Bool, true, false}
-use mathlib.Core.List.{List, _++_}
+use mathlib.Core.List.{List}
 use mathlib.Core.Option.{Option, none, some}
 use Prim.Native.Nat.{ℕ, _+_, _*_, _-_, _/_, _≤_, _<_}
 use native.Mathlib.Omega.{arith}
 use lib.Dec.{ltb}
-use lib.ListN.{length, length-append}
+use lib.ListN.{length}
 use mir.Syntax.{w64}
 use mir.Val.{Fits}
 use borrow.Author.Tests.{lt-ltb, le-ltb, ltb-false}
@@ -29,9 +29,9 @@ use Rattle.width.specs.Width.{supported}
 use Rattle.width.specs.WidthLaws.{in-range, too-narrow, too-wide, supported-is}
 use Rattle.rewriting.specs.Optional.{map}
 use Rattle.rewriting.specs.AtomSimplifier as def
-use Rattle.rewriting.specs.AtomSimplifier.{localRewrite, firstSite, subtreeAt}
+use Rattle.rewriting.specs.AtomSimplifier.{localRewrite, firstSite}
 use Rattle.rewriting.specs.SiteLaws.{first-site}
-use Rattle.rewriting.specs.MeasureLaws.{local-nodes}
+use Rattle.rewriting.specs.ShapeLaws.{local-nodes}
 use Rattle.atom_simplifier.specs.declared.local.Decision.{Decision}
 use Rattle.atom_simplifier.specs.declared.local.Decision.the-variants.{Nothing}
 use Rattle.atom_simplifier.specs.declared.search.Site.{Site}
@@ -157,8 +157,8 @@ module _ (ws : List ℕ) (w room : ℕ) (x : Counted) (h : countedOutcome x ≡ 
     call-width = a .at-most
 
     -- the words of a replacement
-    fits : (s u : Expr) → nodes s ≤ nodes t → localRewrite w s ≡ some u → length (encode u) ≤ room
-    fits s u l g = omega (arith, local-nodes w s u g, length-encode u, a .holds)
+    fits : (u : Expr) → nodes u ≤ nodes t + 1 → length (encode u) ≤ room
+    fits u l = omega (arith, length-encode u, a .holds)
 
     -- ---- `local_certifiable_atom_rewrite`
 
@@ -185,7 +185,7 @@ module _ (ws : List ℕ) (w room : ℕ) (x : Counted) (h : countedOutcome x ≡ 
         call-writable = record {
           tree = u .0;
           makes = u .2;
-          fits = fits (treeAt ws) (u .0) (omega (arith, ap nodes tree-is)) (u .1);
+          fits = fits (u .0) (omega (arith, local-nodes w (treeAt ws) (u .0) (u .1), ap nodes tree-is));
         }
 
         module _ (before after : List ℕ) (k : ℕ) (i : Writes ws d before after k) where
@@ -288,28 +288,13 @@ module _ (ws : List ℕ) (w bytes room : ℕ) (x : Counted) (h : countedOutcome 
         makes : Makes (siteWords ws s) (s .local) (found .0 .replacement)
         makes = subst (λ (v : List ℕ). Makes v (s .local) (found .0 .replacement)) (sym node-is) (i .makes)
 
-        -- the site's subtree is no larger than the tree
-        below-nodes : nodes (subtreeAt (found .0 .path) (treeAt ws)) ≤ nodes (t ws w room x h n e)
-        below-nodes =
-            let c = first-site w (treeAt ws) (found .0) (found .1) in
-            let v = subtreeAt (found .0 .path) (treeAt ws) in
-            omega (
-              arith,
-              ap length (c .was),
-              length-append (c .front) (encode v ++ c .back),
-              length-append (encode v) (c .back),
-              length-encode v,
-              length-encode (treeAt ws),
-              ap nodes (tree-is ws w room x h n e),
-            )
-
         pub holds-site : HoldsSite ws s room
         holds-site = record {
           inside = found-inside;
           writable = record {
             tree = found .0 .replacement;
             makes = makes;
-            fits = fits ws w room x h n e _ (found .0 .replacement) below-nodes (first-site w (treeAt ws) (found .0) (found .1) .rule);
+            fits = fits ws w room x h n e (found .0 .replacement) (omega (arith, first-site w (treeAt ws) (found .0) (found .1) .few, ap nodes (tree-is ws w room x h n e)));
           };
         }
 
