@@ -35,6 +35,16 @@ module _ {A : Type 0} (P : A → Type 0) where
   every-on Q none f h = tt
   every-on Q (some a) f h = f a h
 
+module _ {A B : Type 0} (f : A → B) where
+  -- nothing is there
+  pub map-none : (o : Option A) → map f o ≡ none → o ≡ none
+  map-none none e = refl
+  map-none (some a) e = every-at (λ (x : B). some a ≡ none) none tt (sym e)
+
+  pub neither : (o : Option A) (b : Option B) → (map f o orElse b) ≡ none → (o ≡ none) × (b ≡ none)
+  neither none b e = (refl, e)
+  neither (some a) b e = every-at (λ (x : B). (some a ≡ none) × (b ≡ none)) none tt (sym e)
+
 module _ {A B : Type 0} (P : B → Type 0) where
   pub every-map : (o : Option A) {f : A → B} → ((a : A) → o ≡ some a → P (f a)) → Every P (map f o)
   every-map none h = tt

@@ -3,13 +3,13 @@
 use mathlib.Core.Path.{_≡_, refl, sym, ap, _∙_}
 use mathlib.Core.List.{List, [], _∷_, _++_, append-assoc, append-nil}
 use mathlib.Core.Option.{Option, none, some}
-use Prim.Native.Nat.{ℕ, _+_, _≤_, _<_}
+use Prim.Native.Nat.{ℕ, zero, suc, _+_, _≤_, _<_}
 use native.Mathlib.Omega.{arith}
 use lib.ListN.{length}
 use Rattle.expr.specs.Expr.{Unary, Binary, Expr, leaf, unary, binary, unaryNumber, unaryOperand, binaryNumber, encode, nodes, depth}
 use Rattle.expr.specs.ExprLaws.{depth-pos}
 use Rattle.rewriting.specs.Optional.{map, _andThen_}
-use Rattle.rewriting.specs.OptionalLaws.{every-at, Both, both-orElse, both-on, both-andThen, both-first, both-second}
+use Rattle.rewriting.specs.OptionalLaws.{Every, every-at, neither, map-none, Both, both-orElse, both-on, both-andThen, both-first, both-second}
 use Rattle.rewriting.specs.AtomSimplifier.{localRewrite, Site, here, below, firstSite, firstRewrite, subtreeAt, replaceAt}
 use Rattle.rewriting.specs.ShapeLaws.{local-nodes}
 
@@ -188,3 +188,34 @@ module _ (w : ℕ) where
   first-site t s e =
       every-at (IsSite t) (firstSite w t)
       (both-first (λ s u. IsSite t s) (IsSite t) (firstSite w t) (firstRewrite w t) (λ s u i. i) (at-site w _ sites t)) e
+
+  -- ---- no site
+
+  under-one : (k : Unary) (t : Expr) → firstSite w (unary k t) ≡ none → (firstSite w t ≡ none) × (localRewrite w (unary k t) ≡ none)
+  unfolding firstSite
+  under-one k t e =
+      let p = neither (below 0) (firstSite w t) _ e in
+      (p .0, map-none here (localRewrite w (unary k t)) (p .1))
+
+  under-two : (k : Binary) (l r : Expr) → firstSite w (binary k l r) ≡ none → (firstSite w l ≡ none) × (firstSite w r ≡ none) × (localRewrite w (binary k l r) ≡ none)
+  unfolding firstSite
+  under-two k l r e =
+      let p = neither (below 0) (firstSite w l) _ e in
+      let q = neither (below 1) (firstSite w r) _ (p .1) in
+      (p .0, q .0, map-none here (localRewrite w (binary k l r)) (q .1))
+
+  none-at : (t : Expr) → firstSite w t ≡ none → (path : List ℕ) → Every (λ s. localRewrite w s ≡ none) (subtreeAt path t)
+  unfolding localRewrite subtreeAt
+  none-at (leaf k) e [] = refl
+  none-at (leaf k) e (i ∷ path) = tt
+  none-at (unary k t) e [] = under-one k t e .1
+  none-at (unary k t) e (zero ∷ path) = none-at t (under-one k t e .0) path
+  none-at (unary k t) e (suc i ∷ path) = tt
+  none-at (binary k l r) e [] = under-two k l r e .2
+  none-at (binary k l r) e (zero ∷ path) = none-at l (under-two k l r e .0) path
+  none-at (binary k l r) e (suc zero ∷ path) = none-at r (under-two k l r e .1) path
+  none-at (binary k l r) e (suc (suc i) ∷ path) = tt
+
+  -- where there is no first site, no node of the tree has a local rewrite
+  pub no-site : (t : Expr) → firstSite w t ≡ none → (path : List ℕ) (s : Expr) → subtreeAt path t ≡ some s → localRewrite w s ≡ none
+  no-site t e path s f = every-at (λ s. localRewrite w s ≡ none) (subtreeAt path t) (none-at t e path) f
