@@ -40,14 +40,14 @@ sameKind k j = eqb (binaryNumber k) (binaryNumber j)
 
 -- all at the width w of the call
 module _ (w : ℕ) where
-  -- `constant_val`: the word of a Constant, as it stands
+  -- `constant_val`: the word that a Constant holds, not masked to the width
   abbrev pub constantVal : Expr → Option ℕ
   constantVal (leaf (Constant c)) = some c
   constantVal (leaf (Variable i)) = none
   constantVal (unary k t) = none
   constantVal (binary k l r) = none
 
-  -- two trees are equal when their words are, those of constants as they stand
+  -- the Rust's `==` of two trees: the same words, so that two constants with the same value at the width may still differ
   unfoldable pub samePart : Expr → Expr → Bool
   samePart t u = sameWords (encode t) (encode u)
 
@@ -151,7 +151,7 @@ deMorgan Or a b = some (binary And (not a) (not b))
 deMorgan Xor a b = none
 deMorgan Concat a b = none
 
--- Not of a tree: a Not under it goes with it; an And or Or with a Not directly under it is turned over
+-- Not of Not: the grandchild; Not of an And or Or with a Not operand: De Morgan's laws
 unfoldable pub notRewrite : Expr → Option Expr
 notRewrite (leaf k) = none
 notRewrite (unary k t) = onlyIf (isNotKind k) t
@@ -171,7 +171,7 @@ module _ (w : ℕ) where
   unfoldable pub unlessSame : Expr → Expr → Option Expr
   unlessSame node u = if samePart w u node then none else some u
 
-  -- the fold of the node
+  -- what the fold makes of the node
   unfoldable pub foldRewrite : Bitwise → Expr → Expr → Option Expr
   foldRewrite op lhs rhs = unlessSame (binary (kindOf op) lhs rhs) (tryFoldBinary w op lhs rhs)
 

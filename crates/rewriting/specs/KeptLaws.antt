@@ -61,33 +61,31 @@ first-variables w = at-first w (variables-rise w)
 
 -- ---- what holds of every node
 
--- f holds of a tree exactly if it holds of every leaf and each kind of the tree passes a test; constants, Not, And and Or always do
-record Everywhere (f : Expr → Bool) : Type 0 where
+-- f holds of a tree exactly if it holds of every leaf and each kind passes its test, `one` or `two`; constants, Not, And and Or always do
+record Everywhere (f : Expr → Bool) (one : Unary → Bool) (two : Binary → Bool) : Type 0 where
   in-constant : (c : ℕ) → f (constant c) ≡ true
-  one : Unary → Bool
-  two : Binary → Bool
   in-unary : (k : Unary) (t : Expr) → f (unary k t) ≡ (one k && f t)
   in-binary : (k : Binary) (l r : Expr) → f (binary k l r) ≡ (two k && (f l && f r))
   not-passes : one Not ≡ true
   and-passes : two And ≡ true
   or-passes : two Or ≡ true
 
-module _ {f : Expr → Bool} (p : Everywhere f) where
+module _ {f : Expr → Bool} {one : Unary → Bool} {two : Binary → Bool} (p : Everywhere f one two) where
   -- f of a node, and of its kind and children
-  under-one : (k : Unary) (t : Expr) → f (unary k t) ≡ true → (p .one k ≡ true) × (f t ≡ true)
-  under-one k t h = and-eq-true-iff (p .one k) (f t) .0 (sym (p .in-unary k t) ∙ h)
+  under-one : (k : Unary) (t : Expr) → f (unary k t) ≡ true → (one k ≡ true) × (f t ≡ true)
+  under-one k t h = and-eq-true-iff (one k) (f t) .0 (sym (p .in-unary k t) ∙ h)
 
-  over-one : (k : Unary) (t : Expr) → p .one k ≡ true → f t ≡ true → f (unary k t) ≡ true
-  over-one k t h g = p .in-unary k t ∙ and-eq-true-iff (p .one k) (f t) .1 (h, g)
+  over-one : (k : Unary) (t : Expr) → one k ≡ true → f t ≡ true → f (unary k t) ≡ true
+  over-one k t h g = p .in-unary k t ∙ and-eq-true-iff (one k) (f t) .1 (h, g)
 
-  under-two : (k : Binary) (l r : Expr) → f (binary k l r) ≡ true → (p .two k ≡ true) × (f l ≡ true) × (f r ≡ true)
+  under-two : (k : Binary) (l r : Expr) → f (binary k l r) ≡ true → (two k ≡ true) × (f l ≡ true) × (f r ≡ true)
   under-two k l r h =
-      let a = and-eq-true-iff (p .two k) (f l && f r) .0 (sym (p .in-binary k l r) ∙ h) in
+      let a = and-eq-true-iff (two k) (f l && f r) .0 (sym (p .in-binary k l r) ∙ h) in
       let b = and-eq-true-iff (f l) (f r) .0 (a .1) in
       (a .0, b .0, b .1)
 
-  over-two : (k : Binary) (l r : Expr) → p .two k ≡ true → f l ≡ true → f r ≡ true → f (binary k l r) ≡ true
-  over-two k l r h a b = p .in-binary k l r ∙ and-eq-true-iff (p .two k) (f l && f r) .1 (h, and-eq-true-iff (f l) (f r) .1 (a, b))
+  over-two : (k : Binary) (l r : Expr) → two k ≡ true → f l ≡ true → f r ≡ true → f (binary k l r) ≡ true
+  over-two k l r h a b = p .in-binary k l r ∙ and-eq-true-iff (two k) (f l && f r) .1 (h, and-eq-true-iff (f l) (f r) .1 (a, b))
 
   cut-everywhere : {t u : Expr} → u ⊑ t → f t ≡ true → f u ≡ true
   cut-everywhere (to-constant {c}) h = p .in-constant c
@@ -101,7 +99,7 @@ module _ {f : Expr → Bool} (p : Everywhere f) where
   cut-everywhere (swapped {k} {l} {r}) h = let q = under-two k l r h in over-two k r l (q .0) (q .2) (q .1)
   cut-everywhere (in-turn a b) h = cut-everywhere a (cut-everywhere b h)
 
-  dual-passes : {k j : Binary} → Dual k j → p .two j ≡ true
+  dual-passes : {k j : Binary} → Dual k j → two j ≡ true
   dual-passes and-or = p .or-passes
   dual-passes or-and = p .and-passes
 
@@ -127,17 +125,17 @@ module _ {f : Expr → Bool} (p : Everywhere f) where
 
 -- ---- one width, operands in range, and a setting with a word for each variable
 
-uniform-everywhere : (widths : List ℕ) (v : ℕ) → Everywhere (isUniformWidth widths v)
+uniform-everywhere : (widths : List ℕ) (v : ℕ) → Everywhere (isUniformWidth widths v) unaryKeeps binaryKeeps
 unfolding isUniformWidth
-uniform-everywhere widths v = record { in-constant = λ c. refl; one = unaryKeeps; two = binaryKeeps; in-unary = λ k t. refl; in-binary = λ k l r. refl; not-passes = refl; and-passes = refl; or-passes = refl }
+uniform-everywhere widths v = record { in-constant = λ c. refl; in-unary = λ k t. refl; in-binary = λ k l r. refl; not-passes = refl; and-passes = refl; or-passes = refl }
 
-operands-everywhere : Everywhere operandsOk
+operands-everywhere : Everywhere operandsOk (λ k. operandOk (unaryNumber k) (unaryOperand k)) (λ k. true)
 unfolding operandsOk operandOk
-operands-everywhere = record { in-constant = λ c. refl; one = λ k. operandOk (unaryNumber k) (unaryOperand k); two = λ k. true; in-unary = λ k t. refl; in-binary = λ k l r. refl; not-passes = refl; and-passes = refl; or-passes = refl }
+operands-everywhere = record { in-constant = λ c. refl; in-unary = λ k t. refl; in-binary = λ k l r. refl; not-passes = refl; and-passes = refl; or-passes = refl }
 
-lent-everywhere : (σ : List ℕ) → Everywhere (isLent σ)
+lent-everywhere : (σ : List ℕ) → Everywhere (isLent σ) (λ k. true) (λ k. true)
 unfolding isLent
-lent-everywhere σ = record { in-constant = λ c. refl; one = λ k. true; two = λ k. true; in-unary = λ k t. refl; in-binary = λ k l r. refl; not-passes = refl; and-passes = refl; or-passes = refl }
+lent-everywhere σ = record { in-constant = λ c. refl; in-unary = λ k t. refl; in-binary = λ k l r. refl; not-passes = refl; and-passes = refl; or-passes = refl }
 
 module _ (w : ℕ) (t u : Expr) where
   module _ (e : localRewrite w t ≡ some u) where

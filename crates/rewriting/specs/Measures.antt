@@ -28,7 +28,7 @@ pairs (ZExt w) n = 0
 pairs (SExt w) n = 0
 pairs (Trunc w) n = 0
 
--- D, in document 01's terms every pair of an And or Or node and a Not that is a proper ancestor of it
+-- document 01's D: for each Not, the number of And and Or nodes below it, summed over the tree
 unfoldable pub D : Expr → ℕ
 D (leaf k) = 0
 D (unary k t) = pairs k (andOrs t) + D t

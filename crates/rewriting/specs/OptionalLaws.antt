@@ -68,7 +68,8 @@ module _ {A B : Type 0} (P : A → B → Type 0) where
   both-orElse (some a) o′ none p′ f g = absurd f
   both-orElse (some a) o′ (some b) p′ f g = f
 
-  pub both-on : {C D : Type 0} (Q : C → D → Type 0) (o : Option A) (p : Option B) {f : A → C} {g : B → D} → ((a : A) (b : B) → P a b → Q (f a) (g b)) → Both P o p → Both Q (map f o) (map g p)
+  pub both-on : {C D : Type 0} (Q : C → D → Type 0) (o : Option A) (p : Option B) {f : A → C} {g : B → D}
+      → ((a : A) (b : B) → P a b → Q (f a) (g b)) → Both P o p → Both Q (map f o) (map g p)
   both-on Q none none h e = tt
   both-on Q none (some b) h e = absurd e
   both-on Q (some a) none h e = absurd e

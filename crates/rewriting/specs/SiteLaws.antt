@@ -1,5 +1,5 @@
--- The first site: the one induction by which a property of it is proved, the whole tree after the rewrite there, and the words that it
--- changes. Assumes nothing.
+-- The first site: the one induction by which a property of it is proved, the whole tree after the rewrite there, the words that it changes,
+-- and what it means that there is none. Assumes nothing.
 use mathlib.Core.Path.{_≡_, refl, sym, ap, _∙_}
 use mathlib.Core.List.{List, [], _∷_, _++_, append-assoc, append-nil}
 use mathlib.Core.Option.{Option, none, some}

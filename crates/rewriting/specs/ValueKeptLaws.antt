@@ -1,4 +1,5 @@
--- The local rewrite keeps the value, for every tree, width and setting. Assumes nothing.
+-- The local rewrite keeps the value, for every tree, width and setting. For a tree with a cast or a Concat this says nothing, since `value`
+-- puts 0 there. Assumes nothing.
 use mathlib.Core.Path.{_≡_, refl, sym, ap, ap₂, _∙_}
 use mathlib.Core.Logic.{⊎-elim}
 use mathlib.Core.Bool.{_&&_, _||_}
