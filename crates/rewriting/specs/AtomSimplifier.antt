@@ -218,7 +218,7 @@ module _ (w : ℕ) where
       map (below 1) (firstSite r) orElse
       map here (localRewrite w (binary k l r))
 
-  -- the whole tree after the rewrite at its first site; SiteLaws ties the two
+  -- the whole tree after the rewrite at its first site (SiteLaws, `first-is`)
   unfoldable pub firstRewrite : Expr → Option Expr
   firstRewrite (leaf k) = localRewrite w (leaf k)
   firstRewrite (unary k t) = map (unary k) (firstRewrite t) orElse localRewrite w (unary k t)
