@@ -398,4 +398,12 @@ module _ (node : List ℕ) (t : Expr) (x : Exactly node t) (w : ℕ) (v : Arity)
       let f = exact-front node t x in
       no-kind node v h (record { tree = t; front = f }) r e 0 (λ u. Decides node local.Nothing (localRewrite w t)) .holds t f
 
-pub ruleset localRule = (parts, number-not, bitwise-arity, has-child, not-decides, other-stays, shift-stays, shift-goes, no-rule-below, double-most, double-goes, below-arity, operand-fits, left-inside, right-inside, left-not, right-not, neither-not, and-bitwise, or-bitwise, xor-bitwise, binary-stays, xor-decides, or-equal, or-decides, and-equal, and-decides, and-decides-2, three-one, at-width, arity-one, arity-two, leaf-stays, no-root)
+-- ---- by function
+
+pub ruleset notRule = (parts, number-not, has-child, no-rule-below, double-most, double-goes, below-arity, operand-fits, left-inside, right-inside, left-not, right-not, neither-not, and-bitwise, or-bitwise)
+
+pub ruleset unaryRule = (parts, not-decides, other-stays, shift-stays, shift-goes)
+
+pub ruleset pairRule = (parts, bitwise-arity, and-bitwise, or-bitwise, xor-bitwise, binary-stays, xor-decides, or-equal, or-decides, and-equal, and-decides, and-decides-2, three-one)
+
+pub ruleset rootRule = (parts, at-width, arity-one, arity-two, leaf-stays, no-root)

@@ -2,7 +2,7 @@
 use mathlib.Core.Path.{_≡_, refl, sym, ap, subst, _∙_}
 use mathlib.Core.List.{List, [], _∷_}
 use mathlib.Core.Option.{Option, none, some}
-use Prim.Native.Nat.{ℕ, _+_, _-_, _≤_}
+use Prim.Native.Nat.{ℕ, _+_, _*_, _-_, _≤_, _<_}
 use native.Mathlib.Omega.{arith}
 use lib.ListN.{length, getD}
 use mir.Syntax.{w64}
@@ -122,13 +122,12 @@ module _ (k : ℕ) (b : IsBitwise k) (lhs : List ℕ) (from w c : ℕ) where
       right-val : constantVal w (rightOf t) ≡ constantOption v
       right-val = sym (g ∙ ap (constantVal w) (right-tree lhs t x a right q))
 
-      pub from-right : (d m : ℕ) (r : Decision) → v ≡ val.Word d → m ≡ foldedWord w (bitwiseOf k) d c
-          → DecidesAt k (from + 2) (part 2 right lhs) r (some (tryFoldBinary w (bitwiseOf k) (treeAt (part 2 right lhs)) (constant m))) → Reassociated t r
-      from-right d m r f n h = record {
+      pub from-right : (d : ℕ) (r : Decision) → v ≡ val.Word d
+          → DecidesAt k (from + 2) (part 2 right lhs) r (some (tryFoldBinary w (bitwiseOf k) (treeAt (part 2 right lhs)) (constant (foldedWord w (bitwiseOf k) d c)))) → Reassociated t r
+      from-right d r f h = record {
         in-node = λ ws p i.
             subst (Decides ws r)
-            (ap (λ (j : ℕ). some (tryFoldBinary w (bitwiseOf k) (treeAt (part 2 right lhs)) (constant j))) n
-            ∙ ap (λ (s : Expr). some (tryFoldBinary w (bitwiseOf k) s (constant (foldedWord w (bitwiseOf k) d c)))) (left-tree lhs t x a right q)
+            (ap (λ (s : Expr). some (tryFoldBinary w (bitwiseOf k) s (constant (foldedWord w (bitwiseOf k) d c)))) (left-tree lhs t x a right q)
             ∙ sym (made (some d) (constantVal w (leftOf t)) (right-val ∙ ap constantOption f) refl))
             (h .in-node ws (left-within ws lhs from p t x a right q) i);
       }
@@ -140,13 +139,12 @@ module _ (k : ℕ) (b : IsBitwise k) (lhs : List ℕ) (from w c : ℕ) where
         pub no-constants : y ≡ val.None → Reassociated t Nothing
         no-constants n = nothing t (made none none (right-val ∙ ap constantOption f) (left-val ∙ ap constantOption n))
 
-        pub from-left : (d m : ℕ) (r : Decision) → y ≡ val.Word d → m ≡ foldedWord w (bitwiseOf k) d c
-            → DecidesAt k (from + right) (tail right lhs) r (some (tryFoldBinary w (bitwiseOf k) (treeAt (tail right lhs)) (constant m))) → Reassociated t r
-        from-left d m r n i j = record {
+        pub from-left : (d : ℕ) (r : Decision) → y ≡ val.Word d
+            → DecidesAt k (from + right) (tail right lhs) r (some (tryFoldBinary w (bitwiseOf k) (treeAt (tail right lhs)) (constant (foldedWord w (bitwiseOf k) d c)))) → Reassociated t r
+        from-left d r n j = record {
           in-node = λ ws p l.
               subst (Decides ws r)
-              (ap (λ (j : ℕ). some (tryFoldBinary w (bitwiseOf k) (treeAt (tail right lhs)) (constant j))) i
-              ∙ ap (λ (s : Expr). some (tryFoldBinary w (bitwiseOf k) s (constant (foldedWord w (bitwiseOf k) d c)))) (right-tree lhs t x a right q)
+              (ap (λ (s : Expr). some (tryFoldBinary w (bitwiseOf k) s (constant (foldedWord w (bitwiseOf k) d c)))) (right-tree lhs t x a right q)
               ∙ sym (made none (some d) (right-val ∙ ap constantOption f) (left-val ∙ ap constantOption n)))
               (j .in-node ws (right-within ws lhs from p t x a right q) l);
         }
@@ -168,12 +166,24 @@ module _ (k : ℕ) (b : IsBitwise k) (lhs : List ℕ) (t : Expr) (x : Exactly lh
   pub right-room : from + right + length (tail right lhs) ≤ 1024
   right-room = omega (arith, length-tail right lhs, most)
 
-  pub left-short : length (part 2 right lhs) ≤ 1024
-  left-short = omega (arith, left-room)
+  -- the measure falls
+  pub left-falls : (n : ℕ) → 2 * length lhs ≡ n → 2 * length (part 2 right lhs) + 1 < n
+  left-falls n i = omega (arith, ap length (left-exact lhs t x (number-bitwise lhs k e b) right q .words), most)
 
-  pub right-short : length (tail right lhs) ≤ 1024
-  right-short = omega (arith, right-room)
+  pub right-falls : (n : ℕ) → 2 * length lhs ≡ n → 2 * length (tail right lhs) + 1 < n
+  right-falls n i = omega (arith, length-tail right lhs, most)
 
-pub ruleset reassociation = (parts, number-bitwise, other-kind, left-fits, right-fits, left-room, right-room, left-short, right-short, from-right, no-constants, from-left)
+-- ---- `fold_constants`
+
+pub folded-once : (k from w d c m : ℕ) (part : List ℕ) (r : Decision) (t : Expr) → m ≡ foldedWord w (bitwiseOf k) d c
+    → DecidesAt k from part r (some (tryFoldBinary w (bitwiseOf k) t (constant m))) → DecidesAt k from part r (some (tryFoldBinary w (bitwiseOf k) t (constant (foldedWord w (bitwiseOf k) d c))))
+folded-once k from w d c m part r t e h = subst (λ (n : ℕ). DecidesAt k from part r (some (tryFoldBinary w (bitwiseOf k) t (constant n)))) e h
+
+pub place-short : (from : ℕ) (part : List ℕ) → from + length part ≤ 1024 → length part ≤ 1024
+place-short from part h = omega arith
+
+pub ruleset foldedTwo = (folded-once, place-short)
+
+pub ruleset reassociation = (parts, number-bitwise, other-kind, left-fits, right-fits, left-room, right-room, left-falls, right-falls, from-right, no-constants, from-left)
 
 pub ruleset folded = (is-rewrite, constant-whole, found-kept, arm-right, arm-constant, arm-left, arm-node)

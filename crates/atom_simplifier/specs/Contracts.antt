@@ -79,7 +79,7 @@ pub record Joined (ws : List ℕ) (at len c : ℕ) (u : Expr) : Type 0 where
 abbrev pub dualNumber : ℕ → ℕ
 dualNumber k = if eqb k 4 then 5 else 4
 
--- the words are those of Not over an And or Or of two operands, the right one at that place, and u is the node turned over
+-- the words are those of Not over an And or Or of two operands, the right one at that place, and u is that by De Morgan's law
 pub record Turns (ws : List ℕ) (right : ℕ) (u : Expr) : Type 0 where
   pub kind : Binary
   pub other : Binary

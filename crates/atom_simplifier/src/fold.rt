@@ -255,6 +255,16 @@ fn fold_constant(
     }
 }
 
+// The fold of the part at `from` with the constants d and c as one.
+fn fold_constants(kind: u64, part: &[u64], from: usize, d: u64, c: u64, width: u32) -> Decision
+    requires { ⌜ Whole (now part) × IsBitwise kind × (from + length (now part) ≤ 1024) × (width ≤ 64) ⌝ }
+    ensures { λ r. ⌜ DecidesAt kind from (now (part .entry)) r (some (tryFoldBinary width (bitwiseOf kind) (treeAt (now (part .entry))) (constant (foldedWord width (bitwiseOf kind) d c)))) ⌝ }
+{
+    let folded = folded_word(kind, d, c, width);
+    let found = reassociate_constant(kind, part, from, folded, width);
+    fold_constant(found, kind, part, from, folded, width)
+}
+
 // `(x op d) op c`, or `(d op x) op c`, as the fold of x and `d op c`; `lhs` is the inner node, at `from`. The Rust calls `try_fold_binary`
 // again here, whose right operand is then that constant.
 fn reassociate_constant(kind: u64, lhs: &[u64], from: usize, rhs_const: u64, width: u32) -> Decision
@@ -268,14 +278,10 @@ fn reassociate_constant(kind: u64, lhs: &[u64], from: usize, rhs_const: u64, wid
     let l = &lhs[2..right];
     let r = &lhs[right..];
     if let ConstantVal::Word(d) = constant_val(r, width) {
-        let folded = folded_word(kind, d, rhs_const, width);
-        let found = reassociate_constant(kind, l, from + 2, folded, width);
-        return fold_constant(found, kind, l, from + 2, folded, width);
+        return fold_constants(kind, l, from + 2, d, rhs_const, width);
     }
     if let ConstantVal::Word(d) = constant_val(l, width) {
-        let folded = folded_word(kind, d, rhs_const, width);
-        let found = reassociate_constant(kind, r, from + right, folded, width);
-        return fold_constant(found, kind, r, from + right, folded, width);
+        return fold_constants(kind, r, from + right, d, rhs_const, width);
     }
     Decision::Nothing
 }

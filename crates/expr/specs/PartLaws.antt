@@ -166,11 +166,4 @@ module _ (ws : List ℕ) (t : Expr) (x : Exactly ws t) where
     pub right-most : right ≤ length ws
     right-most = omega (arith, right-within)
 
-    -- each part has fewer words than the node
-    pub left-shorter : (m : ℕ) → length ws ≡ m → length (part 2 right ws) < m
-    left-shorter m f = omega (arith, right-within, ap length (left-exact .words))
-
-    pub right-shorter : (m : ℕ) → length ws ≡ m → length (tail right ws) < m
-    right-shorter m f = omega (arith, right-within, length-tail right ws)
-
-pub ruleset parts = (tail-short, part-short, left-shorter, right-shorter, exact-kind, exact-operand, exact-node, exact-whole, child-whole, left-whole, right-whole, right-within, right-most)
+pub ruleset parts = (tail-short, part-short, exact-kind, exact-operand, exact-node, exact-whole, child-whole, left-whole, right-whole, right-within, right-most)
