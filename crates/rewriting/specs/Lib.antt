@@ -1,6 +1,7 @@
 pub mod Optional
 pub mod AtomSimplifier
 pub mod Measures
+pub mod Chain
 pub mod OptionalLaws
 pub mod TestLaws
 pub mod FoldLaws

@@ -1,0 +1,18 @@
+-- Document 01's chain: the list of trees that an input and a width fix. Definitions only.
+use mathlib.Core.Path.{_≡_}
+use mathlib.Core.List.{List, [], _∷_}
+use mathlib.Core.Option.{none, some}
+use Prim.Native.Nat.{ℕ}
+use Rattle.expr.specs.Expr.{Expr}
+use Rattle.rewriting.specs.AtomSimplifier.{firstRewrite}
+
+-- the list of trees from t on at width w: t alone where t has no site; else t, and then the list of the tree after the rewrite at its first
+-- site
+pub data Listed (w : ℕ) : Expr → List Expr → Type 0 where
+  done : {t : Expr} → firstRewrite w t ≡ none → Listed w t (t ∷ [])
+  more : {t u : Expr} {trees : List Expr} → firstRewrite w t ≡ some u → Listed w u trees → Listed w t (t ∷ trees)
+
+-- the last tree of a list, the end tree where it is the list of trees from t on; t where the list is empty
+unfoldable pub lastOf : Expr → List Expr → Expr
+lastOf t [] = t
+lastOf t (u ∷ trees) = lastOf u trees
