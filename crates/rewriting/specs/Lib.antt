@@ -10,3 +10,4 @@ pub mod ShapeLaws
 pub mod SiteLaws
 pub mod MeasureLaws
 pub mod KeptLaws
+pub mod EndLaws
