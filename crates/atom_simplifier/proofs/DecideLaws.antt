@@ -3,13 +3,14 @@ use mathlib.Core.Path.{_≡_, refl, sym, ap, subst, _∙_}
 use mathlib.Core.Logic.{⊎-elim}
 use mathlib.Core.List.{List, [], _∷_, _++_, append-assoc, append-nil}
 use mathlib.Core.Option.{Option, none, some}
-use Prim.Native.Nat.{ℕ, _+_, _-_, _≤_}
+use Prim.Native.Nat.{ℕ, _+_, _*_, _-_, _≤_}
 use native.Mathlib.Omega.{arith}
 use lib.ListN.{length, take, drop, getD, length-append}
 use lib.Seq.{take-at, drop-at}
 use denote.Enum.Declared.{tagOf}
 use types.Run.{OneOf}
-use Rattle.expr.specs.Expr.{Expr, encode}
+use Rattle.expr.specs.Expr.{Expr, encode, nodes}
+use Rattle.expr.specs.ExprLaws.{length-encode}
 use Rattle.expr.specs.Outcome.{accepted}
 use Rattle.expr.specs.Parse.{arityOf}
 use Rattle.expr.specs.Parts.{tail, part}
@@ -52,8 +53,8 @@ module _ (ws : List ℕ) (d : Decision) where
 
 module _ (ws part : List ℕ) (at : ℕ) (p : Within ws at part) where
   -- the tree of a part
-  pub part-holds : (t : Expr) → Exactly part t → Holds ws at (length part) t
-  part-holds t x = record { within = subst (Within ws at) (x .words) p; words = ap length (x .words) }
+  pub part-holds : (half : ℕ) → at ≡ 2 * half → (t : Expr) → Exactly part t → Holds ws at (length part) t
+  part-holds half e t x = record { within = subst (Within ws at) (x .words) p; words = ap length (x .words); half = half; even = e }
 
   -- a part of a part
   pub part-within : (front inner back : List ℕ) → part ≡ front ++ (inner ++ back) → Within ws (at + length front) inner
@@ -77,6 +78,10 @@ module _ (ws part : List ℕ) (at : ℕ) (p : Within ws at part) where
       ap (λ (l : List ℕ). take (at + n - at) (drop at l)) (p .words)
       ∙ ap (take (at + n - at)) (drop-at (p .front) (part ++ p .back) at (sym (p .place)))
       ∙ take-at part (p .back) (at + n - at) m
+
+-- the right operand's place is even
+pub right-even : (t : Expr) (right : ℕ) → right ≡ 2 + length (encode (leftOf t)) → right ≡ 2 * (1 + nodes (leftOf t))
+right-even t right q = omega (arith, length-encode (leftOf t))
 
 -- the operands of a node that is itself a part
 module _ (ws node : List ℕ) (from : ℕ) (p : Within ws from node) (t : Expr) (x : Exactly node t) (a : arityOf (getD node 0 0) ≡ accepted 2) (right : ℕ) (q : right ≡ 2 + length (encode (leftOf t))) where
@@ -109,11 +114,16 @@ module _ (node : List ℕ) (t : Expr) (x : Exactly node t) (a : arityOf (getD no
   left-holds =
       let l = left-exact node t x a right q in
       let n : length (encode (leftOf t)) ≡ right - 2 = omega arith in
-      let h = part-holds node (part 2 right node) 2 (left-within node node 0 (all-within node) t x a right q) (leftOf t) l in
+      let h = part-holds node (part 2 right node) 2 (left-within node node 0 (all-within node) t x a right q) 1 refl (leftOf t) l in
       subst (λ (i : ℕ). Holds node 2 i (leftOf t)) (ap length (l .words) ∙ n) h
+
+  -- the right one's words, which end the node's
+  pub right-behind : Within node right (tail right node)
+  right-behind =
+      let p : 0 + right ≡ right = omega arith in
+      subst (λ (i : ℕ). Within node i (tail right node)) p (right-within node node 0 (all-within node) t x a right q)
 
   pub right-holds : Holds node right (length node - right) (rightOf t)
   right-holds =
-      let p : 0 + right ≡ right = omega arith in
-      let h = part-holds node (tail right node) (0 + right) (right-within node node 0 (all-within node) t x a right q) (rightOf t) (right-exact node t x a right q) in
-      subst (λ (i : ℕ). Holds node right i (rightOf t)) (length-tail right node) (subst (λ (i : ℕ). Holds node i (length (tail right node)) (rightOf t)) p h)
+      let h = part-holds node (tail right node) right right-behind (1 + nodes (leftOf t)) (right-even t right q) (rightOf t) (right-exact node t x a right q) in
+      subst (λ (i : ℕ). Holds node right i (rightOf t)) (length-tail right node) h

@@ -77,6 +77,8 @@ module _ (node : List ℕ) (t : Expr) (x : Exactly node t) (a : arityOf (getD no
       record {
         within = part-within node node 0 (all-within node) (getD node 0 0 ∷ getD node 1 0 ∷ []) (encode (leftOf t)) [] behind;
         words = omega (arith, unary-length);
+        half = 1;
+        even = refl;
       }
 
   -- the rule by the two words
@@ -192,7 +194,7 @@ module _ (node : List ℕ) (t : Expr) (x : Exactly node t) (e : getD node 0 0 �
         let m : length (tail 2 node) - 2 ≡ length node - 4 = omega (arith, length-tail 2 node) in
         decides-some node (local.Part 4 (length node - 4)) _ (leftOf (leftOf t))
         (ap notRewrite (c .is) ∙ ap (λ (b : Bool). onlyIf b (leftOf (leftOf t))) k)
-        (record { within = deeper (h .within); words = sym m ∙ h .words })
+        (record { within = deeper (h .within); words = sym m ∙ h .words; half = 2; even = refl })
       where
         deeper : {ys : List ℕ} → Within (tail 2 node) 2 ys → Within node 4 ys
         deeper p = record {

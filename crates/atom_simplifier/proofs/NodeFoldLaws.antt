@@ -6,7 +6,7 @@ use Prim.Native.Nat.{ℕ, _+_, _-_, _≤_}
 use native.Mathlib.Omega.{arith}
 use lib.ListN.{length, getD}
 use Rattle.expr.specs.Outcome.{accepted}
-use Rattle.expr.specs.Expr.{Expr, binary, encode}
+use Rattle.expr.specs.Expr.{Expr, binary, encode, nodes}
 use Rattle.expr.specs.Parse.{arityOf}
 use Rattle.expr.specs.Parts.{tail, part}
 use Rattle.expr.specs.TailLaws.{length-tail}
@@ -21,8 +21,8 @@ use Rattle.atom_simplifier.specs.declared.fold.Arm.{Arm}
 use Rattle.atom_simplifier.specs.declared.fold.Arm.the-variants as arm
 use Rattle.atom_simplifier.specs.declared.local.Decision.{Decision}
 use Rattle.atom_simplifier.specs.declared.local.Decision.the-variants.{Nothing, Part, Constant}
-use Rattle.atom_simplifier.specs.Contracts.{constantOption, armTree, bitwiseOf, IsBitwise, armRewrite, Within, Makes, Decides, DecidesAt}
-use Rattle.atom_simplifier.proofs.DecideLaws.{is-rewrite, decides-none, decides-some, none-decided, some-decided, left-within, right-within, all-within, left-holds, right-holds}
+use Rattle.atom_simplifier.specs.Contracts.{constantOption, armTree, bitwiseOf, IsBitwise, armRewrite, Makes, Decides, DecidesAt}
+use Rattle.atom_simplifier.proofs.DecideLaws.{is-rewrite, decides-none, decides-some, none-decided, some-decided, right-even, left-within, all-within, left-holds, right-behind, right-holds}
 use Rattle.atom_simplifier.proofs.OperandLaws.{bitwise-arity}
 
 -- ---- `reassociate_beside`
@@ -35,7 +35,7 @@ module _ (k from : ℕ) (x : List ℕ) (w : ℕ) (t u : Expr) (v : ConstantVal) 
   pub beside-none : v ≡ val.None → DecidesAt k from x Nothing (constantVal w u andThen reassociateConstant w (bitwiseOf k) t)
   beside-none e =
       let n : constantVal w u ≡ none = sym h ∙ ap constantOption e in
-      record { in-node = λ ws p i. decides-none ws Nothing _ (ap (λ (o : Option ℕ). o andThen reassociateConstant w (bitwiseOf k) t) n) refl }
+      record { in-node = λ ws half j p i. decides-none ws Nothing _ (ap (λ (o : Option ℕ). o andThen reassociateConstant w (bitwiseOf k) t) n) refl }
 
 -- ---- the arms
 
@@ -119,7 +119,7 @@ module _ (node : List ℕ) (t : Expr) (x : Exactly node t) (b : IsBitwise (getD 
 
     module _ (d : Decision) (h : DecidesAt (getD node 0 0) 2 (part 2 right node) d first) where
       first-decides : Decides node d first
-      first-decides = h .in-node node (left-within node node 0 (all-within node) t x a right q) refl
+      first-decides = h .in-node node 1 refl (left-within node node 0 (all-within node) t x a right q) refl
 
       pub first-found : (d ≡ Nothing → ⊥) → Decides node d (foldRewrite w op (leftOf t) (rightOf t))
       first-found f =
@@ -128,9 +128,7 @@ module _ (node : List ℕ) (t : Expr) (x : Exactly node t) (b : IsBitwise (getD 
 
     module _ (g : Decision) (i : DecidesAt (getD node 0 0) right (tail right node) g second) where
       second-decides : Decides node g second
-      second-decides =
-          let p : 0 + right ≡ right = omega arith in
-          i .in-node node (subst (λ (j : ℕ). Within node j (tail right node)) p (right-within node node 0 (all-within node) t x a right q)) refl
+      second-decides = i .in-node node (1 + nodes (leftOf t)) (right-even t right q) (right-behind node t x a right q) refl
 
       pub second-found : (g ≡ Nothing → ⊥) → (d : Decision) → DecidesAt (getD node 0 0) 2 (part 2 right node) d first → d ≡ Nothing → Decides node g (foldRewrite w op (leftOf t) (rightOf t))
       second-found f d h e =

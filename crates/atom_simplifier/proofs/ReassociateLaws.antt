@@ -8,7 +8,7 @@ use lib.ListN.{length, getD}
 use mir.Syntax.{w64}
 use mir.Val.{Fits}
 use borrow.Author.Tests.{ne-eqb, eq-eqb}
-use Rattle.expr.specs.Expr.{Expr, leaf, unary, binary, binaryNumber, encode}
+use Rattle.expr.specs.Expr.{Expr, leaf, unary, binary, binaryNumber, encode, nodes}
 use Rattle.expr.specs.Outcome.{accepted}
 use Rattle.expr.specs.Parse.{arityOf, operandOk, operandsOk}
 use Rattle.expr.specs.Parts.{tail, part}
@@ -25,7 +25,7 @@ use Rattle.atom_simplifier.specs.declared.fold.Arm.the-variants as arm
 use Rattle.atom_simplifier.specs.declared.local.Decision.{Decision}
 use Rattle.atom_simplifier.specs.declared.local.Decision.the-variants.{Nothing, Part, Constant, Join}
 use Rattle.atom_simplifier.specs.Contracts.{constantOption, armTree, bitwiseOf, IsBitwise, Within, Makes, Decides, DecidesAt}
-use Rattle.atom_simplifier.proofs.DecideLaws.{is-rewrite, decides-none, decides-some, none-decided, some-decided, part-holds, left-within, right-within}
+use Rattle.atom_simplifier.proofs.DecideLaws.{is-rewrite, decides-none, decides-some, none-decided, some-decided, part-holds, right-even, left-within, right-within}
 use Rattle.atom_simplifier.proofs.OperandLaws.{number-bitwise}
 
 -- ---- the words of a constant
@@ -53,39 +53,39 @@ module _ (w k from : ℕ) (part : List ℕ) (found : Decision) (t : Expr) (c : �
 
   pub found-kept : (found ≡ Nothing → ⊥) → Folded found
   found-kept f = record {
-    in-node = λ ws p i.
-        let m = some-decided ws found _ (h .in-node ws p i) f in
+    in-node = λ ws half j p i.
+        let m = some-decided ws found _ (h .in-node ws half j p i) f in
         decides-some ws found _ (m .0) (ap (λ (u : Expr). some u) (sym (folds (some (m .0)) (m .1)))) (m .2);
   }
 
   module _ (e : found ≡ Nothing) (a : Arm) (g : armTree (bitwiseOf k) t (treeAt (0 ∷ c ∷ [])) a ≡ arms w (bitwiseOf k) t (treeAt (0 ∷ c ∷ []))) where
     -- nothing was found, so the arms decide
-    by-arm : (d : Decision) (b : Arm) → a ≡ b → ((ws : List ℕ) → Within ws from part → getD ws 0 0 ≡ k → Makes ws d (armTree (bitwiseOf k) t (constant c) b)) → Folded d
+    by-arm : (d : Decision) (b : Arm) → a ≡ b → ((ws : List ℕ) (half : ℕ) → from ≡ 2 * half → Within ws from part → getD ws 0 0 ≡ k → Makes ws d (armTree (bitwiseOf k) t (constant c) b)) → Folded d
     by-arm d b f m = record {
-      in-node = λ ws p i.
+      in-node = λ ws half j p i.
           decides-some ws d _ (armTree (bitwiseOf k) t (constant c) b)
           (ap (λ (u : Expr). some u)
-          (sym (folds none (none-decided ws found _ (h .in-node ws p i) e))
+          (sym (folds none (none-decided ws found _ (h .in-node ws half j p i) e))
           ∙ sym (ap (λ (s : Expr). armTree (bitwiseOf k) t s b) (sym (constant-tree c)) ∙ ap (armTree (bitwiseOf k) t (treeAt (0 ∷ c ∷ []))) (sym f) ∙ g ∙ ap (arms w (bitwiseOf k) t) (constant-tree c))))
-          (m ws p i);
+          (m ws half j p i);
     }
 
     pub arm-right : a ≡ arm.Right → Folded (Constant c)
     unfolding Makes
-    arm-right f = by-arm (Constant c) arm.Right f (λ ws p i. refl)
+    arm-right f = by-arm (Constant c) arm.Right f (λ ws half j p i. refl)
 
     pub arm-constant : (v : ℕ) → a ≡ arm.Constant v → Folded (Constant v)
     unfolding Makes
-    arm-constant v f = by-arm (Constant v) (arm.Constant v) f (λ ws p i. refl)
+    arm-constant v f = by-arm (Constant v) (arm.Constant v) f (λ ws half j p i. refl)
 
     module _ (x : Exactly part t) where
       pub arm-left : a ≡ arm.Left → Folded (Part from (length part))
       unfolding Makes
-      arm-left f = by-arm (Part from (length part)) arm.Left f (λ ws p i. part-holds ws part from p t x)
+      arm-left f = by-arm (Part from (length part)) arm.Left f (λ ws half j p i. part-holds ws part from p half j t x)
 
       pub arm-node : IsBitwise k → a ≡ arm.Node → Folded (Join from (length part) c)
       unfolding Makes
-      arm-node b f = by-arm (Join from (length part) c) arm.Node f (λ ws p i. record { kind = kindOf (bitwiseOf k); operand = t; number = i ∙ b; is = refl; holds = part-holds ws part from p t x })
+      arm-node b f = by-arm (Join from (length part) c) arm.Node f (λ ws half j p i. record { kind = kindOf (bitwiseOf k); operand = t; number = i ∙ b; is = refl; holds = part-holds ws part from p half j t x })
 
 -- ---- `reassociate_constant`
 
@@ -94,7 +94,7 @@ module _ (k : ℕ) (b : IsBitwise k) (lhs : List ℕ) (from w c : ℕ) where
   Reassociated t r = DecidesAt k from lhs r (reassociateConstant w (bitwiseOf k) t c)
 
   nothing : (t : Expr) → reassociateConstant w (bitwiseOf k) t c ≡ none → Reassociated t Nothing
-  nothing t e = record { in-node = λ ws p i. decides-none ws Nothing _ e refl }
+  nothing t e = record { in-node = λ ws half j p i. decides-none ws Nothing _ e refl }
 
   pub other-kind : (t : Expr) → Exactly lhs t → (getD lhs 0 0 ≡ k → ⊥) → Reassociated t Nothing
   unfolding encode reassociateConstant
@@ -125,11 +125,11 @@ module _ (k : ℕ) (b : IsBitwise k) (lhs : List ℕ) (from w c : ℕ) where
       pub from-right : (d : ℕ) (r : Decision) → v ≡ val.Word d
           → DecidesAt k (from + 2) (part 2 right lhs) r (some (tryFoldBinary w (bitwiseOf k) (treeAt (part 2 right lhs)) (constant (foldedWord w (bitwiseOf k) d c)))) → Reassociated t r
       from-right d r f h = record {
-        in-node = λ ws p i.
+        in-node = λ ws half j p i.
             subst (Decides ws r)
             (ap (λ (s : Expr). some (tryFoldBinary w (bitwiseOf k) s (constant (foldedWord w (bitwiseOf k) d c)))) (left-tree lhs t x a right q)
             ∙ sym (made (some d) (constantVal w (leftOf t)) (right-val ∙ ap constantOption f) refl))
-            (h .in-node ws (left-within ws lhs from p t x a right q) i);
+            (h .in-node ws (half + 1) (omega arith) (left-within ws lhs from p t x a right q) i);
       }
 
       module _ (f : v ≡ val.None) (y : ConstantVal) (h : constantOption y ≡ constantVal w (treeAt (part 2 right lhs))) where
@@ -142,11 +142,11 @@ module _ (k : ℕ) (b : IsBitwise k) (lhs : List ℕ) (from w c : ℕ) where
         pub from-left : (d : ℕ) (r : Decision) → y ≡ val.Word d
             → DecidesAt k (from + right) (tail right lhs) r (some (tryFoldBinary w (bitwiseOf k) (treeAt (tail right lhs)) (constant (foldedWord w (bitwiseOf k) d c)))) → Reassociated t r
         from-left d r n j = record {
-          in-node = λ ws p l.
+          in-node = λ ws half m p l.
               subst (Decides ws r)
               (ap (λ (s : Expr). some (tryFoldBinary w (bitwiseOf k) s (constant (foldedWord w (bitwiseOf k) d c)))) (right-tree lhs t x a right q)
               ∙ sym (made none (some d) (right-val ∙ ap constantOption f) (left-val ∙ ap constantOption n)))
-              (j .in-node ws (right-within ws lhs from p t x a right q) l);
+              (j .in-node ws (half + (1 + nodes (leftOf t))) (omega (arith, right-even t right q)) (right-within ws lhs from p t x a right q) l);
         }
 
 -- the calls on the operands

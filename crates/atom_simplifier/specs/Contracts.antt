@@ -3,7 +3,7 @@ use mathlib.Core.Path.{_≡_}
 use mathlib.Core.Bool.{Bool, _||_}
 use mathlib.Core.List.{List, _++_}
 use mathlib.Core.Option.{Option, none, some}
-use Prim.Native.Nat.{ℕ, _+_, _≤_}
+use Prim.Native.Nat.{ℕ, _+_, _*_, _≤_}
 use lib.Dec.{eqb}
 use lib.ListN.{length, getD}
 use Rattle.arith.specs.Choice.{if_then_else_}
@@ -62,10 +62,12 @@ pub record Within (ws : List ℕ) (at : ℕ) (part : List ℕ) : Type 0 where
   pub words : ws ≡ front ++ (part ++ back)
   pub place : at ≡ length front
 
--- the words of the tree stand in the words at that place and of that length
+-- the words of the tree stand in the words at that place and of that length; the place is even, as every node's is
 pub record Holds (ws : List ℕ) (at len : ℕ) (t : Expr) : Type 0 where
   pub within : Within ws at (encode t)
   pub words : len ≡ length (encode t)
+  pub half : ℕ
+  pub even : at ≡ 2 * half
 
 -- u is the node's own kind over the tree at that place and the constant c
 pub record Joined (ws : List ℕ) (at len c : ℕ) (u : Expr) : Type 0 where
@@ -106,9 +108,9 @@ Meaning ws d (some u) = Makes ws d u
 pub record Decides (ws : List ℕ) (d : Decision) (o : Option Expr) : Type 0 where
   pub is : Meaning ws d o
 
--- the same, in every node of the kind number k that has the part at place `from`
+-- the same, in every node of the kind number k that has the part at `from`, an even place
 pub record DecidesAt (k from : ℕ) (part : List ℕ) (d : Decision) (o : Option Expr) : Type 0 where
-  pub in-node : (ws : List ℕ) → Within ws from part → getD ws 0 0 ≡ k → Decides ws d o
+  pub in-node : (ws : List ℕ) (half : ℕ) → from ≡ 2 * half → Within ws from part → getD ws 0 0 ≡ k → Decides ws d o
 
 -- ---- writing
 
