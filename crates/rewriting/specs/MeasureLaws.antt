@@ -5,7 +5,7 @@ use mathlib.Core.Option.{some}
 use Prim.Native.Nat.{ℕ, _+_, _*_, _≤_, _<_}
 use native.Mathlib.Nat.{le-refl}
 use native.Mathlib.Omega.{arith}
-use Rattle.expr.specs.Expr.{Unary, Not, Neg, Shr, ZExt, SExt, Trunc, Binary, Expr, unary, binary, nodes, depth}
+use Rattle.expr.specs.Expr.{Unary, Not, Neg, Shr, ZExt, SExt, Trunc, Binary, Add, Mul, And, Or, Xor, Concat, Expr, leaf, unary, binary, nodes, depth}
 use Rattle.expr.specs.ExprLaws.{depth-pos}
 use Rattle.rewriting.specs.AtomSimplifier.{localRewrite, firstRewrite}
 use Rattle.rewriting.specs.Measures.{andOr, andOrs, pairs, D}
@@ -32,6 +32,37 @@ cut-depth right = omega arith
 cut-depth (both g h) = omega (arith, cut-depth g, cut-depth h)
 cut-depth swapped = omega arith
 cut-depth (in-turn g h) = omega (arith, cut-depth g, cut-depth h)
+
+-- ---- how large they are
+
+and-or-one : (k : Binary) → andOr k ≤ 1
+and-or-one Add = omega arith
+and-or-one Mul = omega arith
+and-or-one And = omega arith
+and-or-one Or = omega arith
+and-or-one Xor = omega arith
+and-or-one Concat = omega arith
+
+pairs-most : (k : Unary) (n : ℕ) → pairs k n ≤ n
+pairs-most Not n = omega arith
+pairs-most Neg n = omega arith
+pairs-most (Shr i) n = omega arith
+pairs-most (ZExt i) n = omega arith
+pairs-most (SExt i) n = omega arith
+pairs-most (Trunc i) n = omega arith
+
+pub and-ors-nodes : (t : Expr) → andOrs t ≤ nodes t
+unfolding andOrs nodes
+and-ors-nodes (leaf k) = omega arith
+and-ors-nodes (unary k t) = omega (arith, and-ors-nodes t)
+and-ors-nodes (binary k l r) = omega (arith, and-or-one k, and-ors-nodes l, and-ors-nodes r)
+
+-- a Not has at most as many And and Or nodes below it as the tree has nodes
+pub D-small : (t : Expr) → nodes t ≤ 1024 → D t ≤ 1024 * nodes t
+unfolding D nodes
+D-small (leaf k) h = omega arith
+D-small (unary k t) h = omega (arith, pairs-most k (andOrs t), and-ors-nodes t, D-small t (omega arith))
+D-small (binary k l r) h = omega (arith, D-small l (omega arith), D-small r (omega arith))
 
 -- ---- the local rewrite
 
