@@ -1,17 +1,19 @@
 -- The end of document 01's list and the number of rewrites that lead to it, without the trees between: how those of a tree are put together
 -- from those of its parts. Assumes nothing.
-use mathlib.Core.Path.{_≡_, refl, sym, ap, ap₂, subst, _∙_}
+use mathlib.Core.Path.{_≡_, refl, ap, ap₂, subst, _∙_}
 use mathlib.Core.Bool.{_||_}
 use mathlib.Core.Option.{Option, none, some}
-use Prim.Native.Nat.{ℕ, suc, _+_}
+use Prim.Native.Nat.{ℕ, zero, suc, _+_, _*_, _<_}
 use native.Mathlib.Omega.{arith}
 use lib.Dec.{T}
 use Rattle.arith.specs.ChoiceLaws.{if-yes}
-use Rattle.expr.specs.Expr.{Leaf, Unary, Not, Binary, Expr, leaf, unary, binary}
+use Rattle.expr.specs.Expr.{Leaf, Unary, Not, Binary, Expr, leaf, unary, binary, nodes}
 use Rattle.rewriting.specs.Optional.{map, _orElse_}
-use Rattle.rewriting.specs.OptionalLaws.{every-at, neither}
+use Rattle.rewriting.specs.OptionalLaws.{neither, not-both, only-one}
 use Rattle.rewriting.specs.AtomSimplifier.{not, isNot, deMorgan, notRewrite, unaryRewrite, localRewrite, firstRewrite}
+use Rattle.rewriting.specs.Measures.{D}
 use Rattle.rewriting.specs.ShapeLaws.{Dual, and-or, or-and}
+use Rattle.rewriting.specs.MeasureLaws.{first-lowers}
 
 -- from t, k rewrites, each at the first site, lead to u, which has no site
 pub data Ends (w : ℕ) : Expr → Expr → ℕ → Type 0 where
@@ -28,15 +30,26 @@ SitesBelow w (binary k l r) = (firstRewrite w l ≡ none) × (firstRewrite w r �
 pub record NoneBelow (w : ℕ) (t : Expr) : Type 0 where
   pub is : SitesBelow w t
 
--- a choice cannot be both empty and not; what is there is one thing
-module _ {A : Type 0} (o : Option A) {a : A} where
-  not-both : {X : Type 0} → o ≡ none → o ≡ some a → X
-  not-both {X} e f = every-at (λ (x : A). X) none tt (sym e ∙ f)
+-- P holds of every tree if it holds of each tree where it holds of those with a lower measure
+module _ (P : Expr → Type 0) (measure : Expr → ℕ) (step : (t : Expr) → ((s : Expr) → measure s < measure t → P s) → P t) where
+  below-bound : (n : ℕ) (t : Expr) → measure t < n → P t
+  below-bound zero t h = absurd (omega arith)
+  below-bound (suc n) t h = step t (λ s g. below-bound n s (omega arith))
 
-  only-one : {b : A} → o ≡ some a → o ≡ some b → a ≡ b
-  only-one e f = cc
+  pub by-measure : (t : Expr) → P t
+  by-measure t = below-bound (measure t + 1) t (omega arith)
 
 module _ (w : ℕ) where
+  -- ---- there is one end and one number of rewrites
+
+  pub ends-exist : (t : Expr) → (u : Expr) × (k : ℕ) × Ends w t u k
+  ends-exist = by-measure (λ t. (u : Expr) × (k : ℕ) × Ends w t u k) (λ t. nodes t + 2 * D t) (λ t again. go t again (firstRewrite w t) refl)
+    where
+      go : (t : Expr) → ((s : Expr) → nodes s + 2 * D s < nodes t + 2 * D t → (u : Expr) × (k : ℕ) × Ends w s u k)
+          → (o : Option Expr) → firstRewrite w t ≡ o → (u : Expr) × (k : ℕ) × Ends w t u k
+      go t again none e = (t, 0, done e)
+      go t again (some s) e = let i = again s (first-lowers w t s e .falls) in (i .0, suc (i .1), more e (i .2))
+
   pub no-site : {t u : Expr} {k : ℕ} → Ends w t u k → firstRewrite w u ≡ none
   no-site (done e) = e
   no-site (more e s) = no-site s
@@ -104,7 +117,7 @@ module _ (w : ℕ) where
   unfolding firstRewrite
   over-two k l r o p e f = ap₂ (λ o p. map (λ u. binary k u r) o orElse map (binary k l) p orElse localRewrite w (binary k l r)) e f
 
-  at-root : (t : Expr) → NoneBelow w t → firstRewrite w t ≡ localRewrite w t
+  pub at-root : (t : Expr) → NoneBelow w t → firstRewrite w t ≡ localRewrite w t
   unfolding firstRewrite
   at-root (leaf k) h = refl
   at-root (unary k t) h = over-one k t none (below-child k t h)

@@ -11,3 +11,4 @@ pub mod SiteLaws
 pub mod MeasureLaws
 pub mod KeptLaws
 pub mod EndLaws
+pub mod NodesLaws

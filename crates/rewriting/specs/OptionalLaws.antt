@@ -1,5 +1,5 @@
 -- What holds of every arm of a choice holds of the choice: by these laws a theorem goes through a definition arm by arm. Assumes nothing.
-use mathlib.Core.Path.{_≡_, refl, sym, subst}
+use mathlib.Core.Path.{_≡_, refl, sym, subst, _∙_}
 use mathlib.Core.Bool.{Bool, true, false}
 use mathlib.Core.Option.{Option, none, some}
 use lib.Dec.{T}
@@ -34,6 +34,15 @@ module _ {A : Type 0} (P : A → Type 0) where
   pub every-on : (Q : A → Type 0) (o : Option A) → ((a : A) → P a → Q a) → Every P o → Every Q o
   every-on Q none f h = tt
   every-on Q (some a) f h = f a h
+
+module _ {A : Type 0} (o : Option A) {a : A} where
+  -- there is not both nothing and something
+  pub not-both : {X : Type 0} → o ≡ none → o ≡ some a → X
+  not-both {X} e f = every-at (λ (x : A). X) none tt (sym e ∙ f)
+
+  -- nor two things
+  pub only-one : {b : A} → o ≡ some a → o ≡ some b → a ≡ b
+  only-one e f = cc
 
 module _ {A B : Type 0} (f : A → B) where
   -- nothing is there
