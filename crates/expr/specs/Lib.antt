@@ -12,6 +12,7 @@ pub mod RefusalLaws
 pub mod OutcomeLaws
 pub mod KindLaws
 pub mod ExprLaws
+pub mod SubtreeLaws
 pub mod SameWordsLaws
 pub mod ParseLaws
 pub mod SpanLaws

@@ -8,6 +8,7 @@ use native.Mathlib.Omega.{arith}
 use lib.Dec.{T}
 use Rattle.arith.specs.ChoiceLaws.{if-yes}
 use Rattle.expr.specs.Expr.{Leaf, Unary, Not, Binary, Expr, leaf, unary, binary, nodes}
+use Rattle.expr.specs.SubtreeLaws.{_isIn_, itself, in-child, in-left, in-right}
 use Rattle.rewriting.specs.Optional.{map, _orElse_}
 use Rattle.rewriting.specs.OptionalLaws.{neither, not-both, only-one}
 use Rattle.rewriting.specs.AtomSimplifier.{not, isNot, deMorgan, notRewrite, unaryRewrite, localRewrite, firstRewrite}
@@ -104,6 +105,19 @@ module _ (w : ℕ) where
   pub below-right : (k : Binary) (l r : Expr) → NoneBelow w (binary k l r) → firstRewrite w r ≡ none
   unfolding SitesBelow
   below-right k l r h = h .is .1
+
+  -- no part below the root has a site
+  in-still : {t u : Expr} → u isIn t → firstRewrite w t ≡ none → firstRewrite w u ≡ none
+  in-still itself e = e
+  in-still (in-child {k} {u} {t} p) e = in-still p (child-still k t e)
+  in-still (in-left {k} {u} {l} {r} p) e = in-still p (left-still k l r e)
+  in-still (in-right {k} {u} {l} {r} p) e = in-still p (right-still k l r e)
+
+  pub part-still : (t u : Expr) → NoneBelow w t → u isIn t → nodes u < nodes t → firstRewrite w u ≡ none
+  part-still t u h itself n = absurd (omega arith)
+  part-still t u h (in-child {k} {t = s} p) n = in-still p (below-child k s h)
+  part-still t u h (in-left {k} {l = l} {r} p) n = in-still p (below-left k l r h)
+  part-still t u h (in-right {k} {l = l} {r} p) n = in-still p (below-right k l r h)
 
   -- ---- the first rewrite of a node, from those of its children
 
