@@ -156,11 +156,15 @@ module _ (w : ℕ) where
   pub ends-unary : (k : Unary) (t u v : Expr) (a m : ℕ) → Ends w t u a → Ends w (unary k u) v m → Ends w (unary k t) v (a + m)
   ends-unary k t u v a m r s = ends-in (unary k) (λ x y. over-one k x (some y)) r s
 
+  pub ends-left : (k : Binary) (l r u v : Expr) (a m : ℕ) → Ends w l u a → Ends w (binary k u r) v m → Ends w (binary k l r) v (a + m)
+  ends-left k l r u v a m p s = ends-in (λ x. binary k x r) (λ x y e. over-two k x r (some y) (firstRewrite w r) e refl) p s
+
+  pub ends-right : (k : Binary) (l r u v : Expr) (b m : ℕ) → firstRewrite w l ≡ none → Ends w r u b → Ends w (binary k l u) v m → Ends w (binary k l r) v (b + m)
+  ends-right k l r u v b m e q s = ends-in (binary k l) (λ x y. over-two k l x none (some y) e) q s
+
   pub ends-binary : (k : Binary) (l r l′ r′ v : Expr) (a b m : ℕ) → Ends w l l′ a → Ends w r r′ b → Ends w (binary k l′ r′) v m → Ends w (binary k l r) v (a + b + m)
   ends-binary k l r l′ r′ v a b m p q s =
-      subst (Ends w (binary k l r) v) (omega arith)
-      (ends-in (λ x. binary k x r) (λ x y e. over-two k x r (some y) (firstRewrite w r) e refl) p
-      (ends-in (binary k l′) (λ x y. over-two k l′ x none (some y) (no-site p)) q s))
+      subst (Ends w (binary k l r) v) (omega arith) (ends-left k l r l′ v a (b + m) p (ends-right k l′ r r′ v b m (no-site p) q s))
 
   -- ---- De Morgan's laws and double negation at the root
 
@@ -172,12 +176,13 @@ module _ (w : ℕ) where
   unfolding localRewrite unaryRewrite notRewrite
   turns k j a b d h = if-yes (isNot a || isNot b) (deMorgan k a b) none h ∙ dual-turns d a b
 
-  pub ends-de-morgan : (k j : Binary) (a b a′ b′ v : Expr) (m n p : ℕ) → Dual k j → T (isNot a || isNot b) → firstRewrite w (binary k a b) ≡ none
-      → Ends w (not a) a′ m → Ends w (not b) b′ n → Ends w (binary j a′ b′) v p → Ends w (not (binary k a b)) v (1 + m + n + p)
-  ends-de-morgan k j a b a′ b′ v m n p d h e r s f =
+  -- the first operand has come to its end, and the second is still to come to it
+  pub ends-de-morgan : (k j : Binary) (a b a′ v : Expr) (m p : ℕ) → Dual k j → T (isNot a || isNot b) → firstRewrite w (binary k a b) ≡ none
+      → Ends w (not a) a′ m → Ends w (binary j a′ (not b)) v p → Ends w (not (binary k a b)) v (1 + m + p)
+  ends-de-morgan k j a b a′ v m p d h e r s =
       subst (Ends w (not (binary k a b)) v) (omega arith)
-      (ends-local (not (binary k a b)) (binary j (not a) (not b)) v (m + n + p) (unary-below Not (binary k a b) e) (turns k j a b d h)
-      (ends-binary j (not a) (not b) a′ b′ v m n p r s f))
+      (ends-local (not (binary k a b)) (binary j (not a) (not b)) v (m + p) (unary-below Not (binary k a b) e) (turns k j a b d h)
+      (ends-left j (not a) (not b) a′ v m p r s))
 
   -- Not over a Not without a site is the tree below
   pub ends-not-not : (x : Expr) → firstRewrite w (not x) ≡ none → Ends w (not (not x)) x 1
