@@ -16,3 +16,9 @@ pub data Listed (w : ℕ) : Expr → List Expr → Type 0 where
 unfoldable pub lastOf : Expr → List Expr → Expr
 lastOf t [] = t
 lastOf t (u ∷ trees) = lastOf u trees
+
+infix 4 _isAmong_
+-- the tree is one of the list
+pub data _isAmong_ : Expr → List Expr → Type 0 where
+  first : {t : Expr} {trees : List Expr} → t isAmong (t ∷ trees)
+  later : {t u : Expr} {trees : List Expr} → t isAmong trees → t isAmong (u ∷ trees)

@@ -43,11 +43,13 @@ module _ (P : Expr → Type 0) (measure : Expr → ℕ) (step : (t : Expr) → (
 module _ (w : ℕ) where
   -- ---- there is one end and one number of rewrites
 
+  abbrev Ended : Expr → Type 0
+  Ended t = (u : Expr) × (k : ℕ) × Ends w t u k
+
   pub ends-exist : (t : Expr) → (u : Expr) × (k : ℕ) × Ends w t u k
-  ends-exist = by-measure (λ t. (u : Expr) × (k : ℕ) × Ends w t u k) (λ t. nodes t + 2 * D t) (λ t again. go t again (firstRewrite w t) refl)
+  ends-exist = by-measure Ended (λ t. nodes t + 2 * D t) (λ t again. go t again (firstRewrite w t) refl)
     where
-      go : (t : Expr) → ((s : Expr) → nodes s + 2 * D s < nodes t + 2 * D t → (u : Expr) × (k : ℕ) × Ends w s u k)
-          → (o : Option Expr) → firstRewrite w t ≡ o → (u : Expr) × (k : ℕ) × Ends w t u k
+      go : (t : Expr) → ((s : Expr) → nodes s + 2 * D s < nodes t + 2 * D t → Ended s) → (o : Option Expr) → firstRewrite w t ≡ o → Ended t
       go t again none e = (t, 0, done e)
       go t again (some s) e = let i = again s (first-lowers w t s e .falls) in (i .0, suc (i .1), more e (i .2))
 

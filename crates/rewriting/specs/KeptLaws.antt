@@ -8,7 +8,7 @@ use native.Mathlib.Nat.{le-refl, le-trans}
 use native.Mathlib.Omega.{arith}
 use lib.Dec.{T}
 use lib.Ieee.Bits.{is-true}
-use Rattle.expr.specs.Expr.{Unary, Not, Binary, And, Or, Expr, unary, binary, unaryNumber, unaryOperand, nodes}
+use Rattle.expr.specs.Expr.{Unary, Not, Binary, And, Or, Expr, unary, binary, unaryNumber, unaryOperand, nodes, depth}
 use Rattle.expr.specs.Parse.{operandOk, operandsOk, Valid}
 use Rattle.value.specs.Value.{unaryValue, binaryValue, value, isLent}
 use Rattle.width.specs.Width.{unaryKeeps, binaryKeeps, isUniformWidth}
@@ -137,6 +137,14 @@ lent-everywhere : (σ : List ℕ) → Everywhere (isLent σ) (λ k. true) (λ k.
 unfolding isLent
 lent-everywhere σ = record { in-constant = λ c. refl; in-unary = λ k t. refl; in-binary = λ k l r. refl; not-passes = refl; and-passes = refl; or-passes = refl }
 
+-- the limits of document 01, of which a rewrite can break the number of nodes alone
+pub valid-kept : {t u : Expr} → depth u ≤ depth t → (operandsOk t ≡ true → operandsOk u ≡ true) → Valid t → nodes u ≤ 512 → Valid u
+valid-kept {t} {u} d o h n = record {
+  count = n;
+  levels = le-trans d (h .levels);
+  operands = subst T (sym (o (is-true (operandsOk t) (h .operands)))) tt;
+}
+
 module _ (w : ℕ) (t u : Expr) where
   module _ (e : localRewrite w t ≡ some u) where
     pub local-uniform : (widths : List ℕ) (v : ℕ) → isUniformWidth widths v t ≡ true → isUniformWidth widths v u ≡ true
@@ -158,10 +166,5 @@ module _ (w : ℕ) (t u : Expr) where
     pub first-lent : (σ : List ℕ) → isLent σ t ≡ true → isLent σ u ≡ true
     first-lent σ = first-everywhere (lent-everywhere σ) w t u e
 
-    -- the limits of document 01, of which a rewrite can break the number of nodes alone
     pub first-valid : Valid t → nodes u ≤ 512 → Valid u
-    first-valid h n = record {
-      count = n;
-      levels = le-trans (first-lowers w t u e .no-deeper) (h .levels);
-      operands = subst T (sym (first-operands (is-true (operandsOk t) (h .operands)))) tt;
-    }
+    first-valid = valid-kept (first-lowers w t u e .no-deeper) first-operands

@@ -12,3 +12,4 @@ pub mod MeasureLaws
 pub mod KeptLaws
 pub mod EndLaws
 pub mod NodesLaws
+pub mod ChainLaws
