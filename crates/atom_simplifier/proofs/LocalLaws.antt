@@ -111,7 +111,7 @@ module _ (node : List ℕ) (t : Expr) (x : Exactly node t) (a : arityOf (getD no
 -- ---- `not_rewrite`
 
 -- a tree is a Not if its first word is 7
-root-not : (t : Expr) → isNot t ≡ eqb (getD (encode t) 0 0) 7
+pub root-not : (t : Expr) → isNot t ≡ eqb (getD (encode t) 0 0) 7
 unfolding encode
 root-not (leaf (Constant c)) = refl
 root-not (leaf (Variable i)) = refl

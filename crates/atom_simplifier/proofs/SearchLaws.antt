@@ -122,13 +122,13 @@ module _ (ws : List ℕ) (s : Starts ws) where
   pub whole-front : (n : ℕ) → n ≡ length (encode (treeAt ws)) → Whole (part 0 n ws)
   whole-front n e = exact-whole (part 0 n ws) (treeAt ws) (front-part ws (treeAt ws) front n e)
 
-  same-tree : (n : ℕ) → n ≡ length (encode (treeAt ws)) → treeAt (part 0 n ws) ≡ treeAt ws
+  pub same-tree : (n : ℕ) → n ≡ length (encode (treeAt ws)) → treeAt (part 0 n ws) ≡ treeAt ws
   same-tree n e = exact-tree (part 0 n ws) (treeAt ws) (front-part ws (treeAt ws) front n e)
 
   pub front-inside : (n : ℕ) → n ≡ length (encode (treeAt ws)) → n ≤ length ws
   front-inside n e = omega (arith, ap length (front .words), length-append (encode (treeAt ws)) (front .rest))
 
-  same-word : (n : ℕ) → n ≡ length (encode (treeAt ws)) → getD (part 0 n ws) 0 0 ≡ getD ws 0 0
+  pub same-word : (n : ℕ) → n ≡ length (encode (treeAt ws)) → getD (part 0 n ws) 0 0 ≡ getD ws 0 0
   same-word n e =
       ap (λ (l : List ℕ). getD l 0 0) (front-part ws (treeAt ws) front n e .words)
       ∙ first (treeAt ws) ∙ sym (ap (λ (l : List ℕ). getD l 0 0) (front .words))
@@ -148,13 +148,13 @@ module _ (ws : List ℕ) (s : Starts ws) (v : Arity) (h : arityOutcome v ≡ ari
 
   -- a node over one child
   module _ (e : v ≡ arity.One) where
-    u : UnaryNode ws (treeAt ws)
+    pub u : UnaryNode ws (treeAt ws)
     u = unary-node ws v h (treeAt ws) e (front ws s)
 
     child-is : treeAt (tail 2 ws) ≡ u .child
     child-is = front-tree (tail 2 ws) (u .child) (u .below)
 
-    node-is : treeAt ws ≡ unary (u .kind) (treeAt (tail 2 ws))
+    pub node-is : treeAt ws ≡ unary (u .kind) (treeAt (tail 2 ws))
     node-is = u .is ∙ ap (unary (u .kind)) (sym child-is)
 
     pub child-depth : (path : List ℕ) → depth (treeAt ws) ≤ length path + 1 → depth (treeAt (tail 2 ws)) ≤ length path
@@ -201,7 +201,7 @@ module _ (ws : List ℕ) (s : Starts ws) (v : Arity) (h : arityOutcome v ≡ ari
 
 -- a node over two children
 module _ (ws : List ℕ) (s : Starts ws) (e : arityOf (getD ws 0 0) ≡ accepted 2) where
-  b : BinaryNode ws (treeAt ws)
+  pub b : BinaryNode ws (treeAt ws)
   b = binary-node ws arity.Two (sym e) (treeAt ws) refl (front ws s)
 
   left-is : treeAt (tail 2 ws) ≡ b .left
@@ -221,7 +221,7 @@ module _ (ws : List ℕ) (s : Starts ws) (e : arityOf (getD ws 0 0) ≡ accepted
         in
         subst (λ (l : List ℕ). Front l (b .right)) tails (b .right-below)
 
-    both-are : treeAt ws ≡ binary (b .kind) (treeAt (tail 2 ws)) (treeAt (tail right ws))
+    pub both-are : treeAt ws ≡ binary (b .kind) (treeAt (tail 2 ws)) (treeAt (tail right ws))
     both-are = b .is ∙ ap₂ (binary (b .kind)) (sym left-is) (sym (front-tree (tail right ws) (b .right) right-front))
 
     pub right-starts : Starts (tail right ws)
@@ -234,7 +234,7 @@ module _ (ws : List ℕ) (s : Starts ws) (e : arityOf (getD ws 0 0) ≡ accepted
     pub right-first : 1 ≤ right
     right-first = omega (arith, c)
 
-    two-length : length (encode (treeAt ws)) ≡ right + length (encode (treeAt (tail right ws)))
+    pub two-length : length (encode (treeAt ws)) ≡ right + length (encode (treeAt (tail right ws)))
     unfolding encode
     two-length = ap (λ (t : Expr). length (encode t)) both-are ∙ omega (arith, c, length-append (encode (treeAt (tail 2 ws))) (encode (treeAt (tail right ws))))
 

@@ -1,4 +1,4 @@
--- What the two public calls come to, and what they leave in the lent places. Definitions only.
+-- What the public calls come to, and what the two that write a rewrite leave in the lent places. Definitions only.
 use mathlib.Core.List.{List, _++_}
 use mathlib.Core.Option.{Option, none, some}
 use Prim.Native.Nat.{ℕ, _+_, _*_}
@@ -10,6 +10,8 @@ use Rattle.expr.specs.Outcome.{Outcome, refused, accepted, mapped, _andThen_}
 use Rattle.expr.specs.Expr.{Expr, nodes}
 use Rattle.expr.specs.Parse.{parse}
 use Rattle.width.specs.Width.{supported}
+use Rattle.value.specs.Value.{oneWidth}
+use Rattle.rewriting.specs.Measures.{D}
 use Rattle.rewriting.specs.AtomSimplifier.{Site, localRewrite, firstSite}
 
 -- 9 where an output of so many words has no room for one node more than the tree has
@@ -28,6 +30,14 @@ localRewriteAt ws w room = mapped (localRewrite w) (admitted ws w room)
 unfoldable pub firstSiteAt : List ℕ → ℕ → ℕ → ℕ → Outcome (Option Site)
 firstSiteAt ws w bytes room =
     admitted ws w room andThen (λ t. if ltb bytes 63 then refused (refusal 9) else accepted (firstSite w t))
+
+-- 9 where a work of so many words has no room for n + D nodes
+unfoldable pub withWork : ℕ → Expr → Outcome Expr
+withWork room t = if ltb room (2 * (nodes t + D t)) then refused (refusal 9) else accepted t
+
+-- `chain`: the tree that it starts from, or the refusal: 1 to 8, then 9
+unfoldable pub chainAdmitted : List ℕ → ℕ → List ℕ → ℕ → Outcome Expr
+chainAdmitted ws w widths room = oneWidth ws w widths andThen withWork room
 
 -- ---- what is written
 

@@ -12,6 +12,7 @@ ghost use Rattle.atom_simplifier.specs.Calls.{admitted, localRewriteAt, 
 ghost use Rattle.atom_simplifier.specs.Contracts.{siteWords, Writes, HoldsSite};
 ghost use Rattle.atom_simplifier.specs.Answers.{rewriteOutcome, siteOutcome};
 
+pub mod chain;
 mod fold;
 mod local;
 mod search;

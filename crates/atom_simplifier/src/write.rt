@@ -2,9 +2,9 @@
 ghost use mathlib.Core.Path.{_≡_};
 ghost use mathlib.Core.List.{[], _∷_, _++_};
 ghost use Prim.Native.Nat.{_+_, _≤_, _<_};
-ghost use lib.ListN.{length, getD};
+ghost use lib.ListN.{length, getD, replicate};
 ghost use Rattle.expr.specs.Parts.{part};
-ghost use Rattle.atom_simplifier.specs.Contracts.{copied, dualNumber, Laid, Writable, Writes};
+ghost use Rattle.atom_simplifier.specs.Contracts.{copied, dualNumber, Laid, Writable, Writes, Replaceable};
 use crate::local::Decision;
 use expr::kind;
 
@@ -20,7 +20,7 @@ fn copy(part: &[u64], width: u32, out: &mut [u64])
     }
 }
 
-fn put_node(kind: u64, operand: u64, out: &mut [u64])
+pub(crate) fn put_node(kind: u64, operand: u64, out: &mut [u64])
     requires { ⌜ 2 ≤ length (now out) ⌝ }
     ensures { λ r. ⌜ Laid (now (out .entry)) (now (out .exit)) (kind ∷ operand ∷ []) ⌝ }
 {
@@ -29,7 +29,7 @@ fn put_node(kind: u64, operand: u64, out: &mut [u64])
 }
 
 // And for Or, Or for And.
-fn dual(kind: u64) -> u64
+pub(crate) fn dual(kind: u64) -> u64
     ensures { λ r. ⌜ r ≡ dualNumber kind ⌝ }
 {
     if kind == kind::AND {
@@ -91,5 +91,64 @@ pub(crate) fn write_replacement(node: &[u64], local: Decision, width: u32, out: 
             write_de_morgan(node, right, width, out);
             2 + node.len()
         }
+    }
+}
+
+// Moves the `len` words from `by` on to the front.
+pub(crate) fn move_down(ws: &mut [u64], by: usize, len: usize)
+    requires { ⌜ by + len ≤ length (now ws) ⌝ }
+    ensures { λ r. ⌜ Laid (now (ws .entry)) (now (ws .exit)) (part by (by + len) (now (ws .entry))) ⌝ }
+{
+    if by == 0 {
+        return;
+    }
+    let mut i = 0;
+    while i < len {
+        ws[i] = ws[by + i];
+        i += 1;
+    }
+}
+
+// The node's kind over the part of `len` words at `at` and the constant c, in the place of the node.
+fn join_down(node: &mut [u64], at: usize, len: usize, c: u64)
+    requires { ⌜ (2 ≤ at) × (at + len ≤ length (now node)) × (4 + len ≤ length (now node)) ⌝ }
+    ensures { λ r. ⌜ Laid (now (node .entry)) (now (node .exit)) (((getD (now (node .entry)) 0 0 ∷ 0 ∷ []) ++ part at (at + len) (now (node .entry))) ++ (0 ∷ c ∷ [])) ⌝ }
+{
+    node[1] = 0;
+    move_down(&mut node[2..], at - 2, len);
+    let last = 2 + len;
+    put_node(kind::CONSTANT, c, &mut node[last..]);
+}
+
+// Writes what the decision makes of the node of `len` words in the place of the node, from its first word on, and answers how many words that
+// is. De Morgan's law, which needs more words than the node has, is not for it.
+pub(crate) fn replace(node: &mut [u64], len: usize, local: Decision) -> usize
+    requires { ⌜ Replaceable (now node) len local ⌝ }
+    ensures { λ r. ⌜ Writes (part 0 len (now (node .entry))) local (now (node .entry)) (now (node .exit)) r ⌝ }
+{
+    match local {
+        Decision::Part(at, n) => {
+            move_down(node, at, n);
+            n
+        }
+        Decision::Constant(c) => {
+            put_node(kind::CONSTANT, c, node);
+            2
+        }
+        Decision::Join(at, n, c) => {
+            join_down(node, at, n, c);
+            4 + n
+        }
+        _ => len,
+    }
+}
+
+pub(crate) fn clear(ws: &mut [u64])
+    ensures { λ r. ⌜ now (ws .exit) ≡ replicate (length (now (ws .entry))) 0 ⌝ }
+{
+    let mut i = 0;
+    while i < ws.len() {
+        ws[i] = 0;
+        i += 1;
     }
 }
