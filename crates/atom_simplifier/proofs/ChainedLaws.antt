@@ -133,6 +133,11 @@ module _ (ws : List ℕ) (w : ℕ) (widths : List ℕ) (x : Counted) (h : counte
     pub chain-width : w ≤ 64
     chain-width = of-one-width .at-most
 
+    pub chain-room : (work : List ℕ) (more : ℕ) → 2 * (n + more) ≤ length work → length (encode (treeAt ws)) ≤ length work
+    chain-room work more f = omega (arith, ap nodes tree-is, length-encode (treeAt ws), m .made)
+
+    -- ---- the room that is asked for
+
     module _ (spans : ℕ) (v : Pairs) (p : Read ws spans (Gives counted v)) where
       pairs-are : v .pairs ≡ D t
       unfolding counted
@@ -144,8 +149,8 @@ module _ (ws : List ℕ) (w : ℕ) (widths : List ℕ) (x : Counted) (h : counte
       pub sum-fits : Fits w64 (n + v .pairs)
       sum-fits = omega (arith, few, m .made, accepts .valid .count)
 
-      pub work-fits : Fits w64 (2 * (n + v .pairs))
-      work-fits = omega (arith, few, m .made, accepts .valid .count)
+      pub room-fits : Fits w64 (2 * (n + v .pairs))
+      room-fits = omega (arith, few, m .made, accepts .valid .count)
 
       admits : (room : ℕ) (b : Bool) → ltb room (2 * (n + v .pairs)) ≡ b → chainAdmitted ws w widths room ≡ (if b then refused (refusal 9) else accepted t)
       unfolding chainAdmitted withWork
@@ -161,43 +166,38 @@ module _ (ws : List ℕ) (w : ℕ) (widths : List ℕ) (x : Counted) (h : counte
             (sym (admits (length work) true (lt-ltb (length work) (2 * (n + v .pairs)) f))) (refl, refl);
       }
 
-      module _ (work : List ℕ) (f : 2 * (n + v .pairs) ≤ length work) where
-        pub chain-room : length (encode (treeAt ws)) ≤ length work
-        chain-room = omega (arith, ap nodes tree-is, length-encode (treeAt ws), m .made)
+    -- ---- the end tree in the work
 
-        module _ (built : List ℕ) (read len steps : ℕ) (i : IsBuilt w ws work built read len steps) where
-          ends : Ends w t (i .comes .tree) steps
-          ends = subst (λ (s : Expr). Ends w s (i .comes .tree) steps) tree-is (i .comes .ends)
+    module _ (work built : List ℕ) (read len steps : ℕ) (i : IsBuilt w ws work built read len steps) where
+      ends : Ends w t (i .comes .tree) steps
+      ends = subst (λ (s : Expr). Ends w s (i .comes .tree) steps) tree-is (i .comes .ends)
 
-          end-short : len ≤ 1024
-          end-short = omega (arith, i .comes .len-is, length-encode (i .comes .tree), ends-nodes w ends, accepts .valid .count)
+      pub end-scaled : Fits w64 (len * 8)
+      end-scaled = omega (arith, i .comes .len-is, length-encode (i .comes .tree), ends-nodes w ends, accepts .valid .count)
 
-          pub end-scaled : Fits w64 (len * 8)
-          end-scaled = omega (arith, end-short)
+      pub end-inside : len ≤ length built
+      end-inside = omega (arith, i .comes .len-is, ap length (i .comes .words), length-append (encode (i .comes .tree)) (i .comes .rest))
 
-          pub end-inside : len ≤ length built
-          end-inside = omega (arith, i .comes .len-is, ap length (i .comes .words), length-append (encode (i .comes .tree)) (i .comes .rest))
+      module _ (spans : ℕ) (v : Pairs) (p : Read ws spans (Gives counted v)) (f : 2 * (n + v .pairs) ≤ length work) (cleared : List ℕ) (c : cleared ≡ replicate (length (tail len built)) 0) where
+        abbrev after : List ℕ
+        after = putMid len (length built - len) built cleared
 
-          module _ (cleared : List ℕ) (c : cleared ≡ replicate (length (tail len built)) 0) where
-            abbrev after : List ℕ
-            after = putMid len (length built - len) built cleared
+        pub chain-answered : ChainGives (chainAdmitted ws w widths (length work)) w widths work after (accepted (len / 2, steps))
+        unfolding ChainIs
+        chain-answered =
+            let u = i .comes .tree in
+            let half : len / 2 ≡ nodes u = omega (arith, i .comes .len-is, length-encode u) in
+            record {
+              is =
+                  subst (λ (a : Outcome Expr). ChainIs a w widths work after (accepted (len / 2, steps)))
+                  (sym (admits spans v p (length work) false (le-ltb (length work) (2 * (n + v .pairs)) f))) (
+                    len / 2,
+                    steps,
+                    refl,
+                    after-length u (i .comes .rest) built after cleared len (i .comes .len-is) (i .comes .words) c refl ∙ i .comes .long,
+                    chained w widths t u steps ws after (len / 2) of-one-width accepts ends half
+                        (only-zeros u (i .comes .rest) built after cleared len (i .comes .len-is) (i .comes .words) c refl),
+                  );
+            }
 
-            pub chain-answered : ChainGives (chainAdmitted ws w widths (length work)) w widths work after (accepted (len / 2, steps))
-            unfolding ChainIs
-            chain-answered =
-                let u = i .comes .tree in
-                let half : len / 2 ≡ nodes u = omega (arith, i .comes .len-is, length-encode u) in
-                record {
-                  is =
-                      subst (λ (a : Outcome Expr). ChainIs a w widths work after (accepted (len / 2, steps)))
-                      (sym (admits (length work) false (le-ltb (length work) (2 * (n + v .pairs)) f))) (
-                        len / 2,
-                        steps,
-                        refl,
-                        after-length u (i .comes .rest) built after cleared len (i .comes .len-is) (i .comes .words) c refl ∙ i .comes .long,
-                        chained w widths t u steps ws after (len / 2) of-one-width accepts ends half
-                            (only-zeros u (i .comes .rest) built after cleared len (i .comes .len-is) (i .comes .words) c refl),
-                      );
-                }
-
-pub ruleset chaining = (chain-turned-down, chain-starts, chain-short, chain-width, sum-fits, work-fits, work-too-small, chain-room, end-scaled, end-inside, chain-answered)
+pub ruleset chaining = (chain-turned-down, chain-starts, chain-short, chain-width, chain-room, sum-fits, room-fits, work-too-small, end-scaled, end-inside, chain-answered)

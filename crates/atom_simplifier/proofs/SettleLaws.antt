@@ -356,9 +356,24 @@ module _ (w : ℕ) (ws : List ℕ) (len : ℕ) (r : Ready w ws len) (d : Decisio
       unfolding encode
       again-size = n-is joins after n wr ∙ ap (λ (v : Expr). length (encode v)) (is-join .is) ∙ omega (arith, length-append (encode (is-join .operand)) (encode (constant (join .2))))
 
+      right-is : n - 2 ≡ 2 + length (encode (leftOf (treeAt after)))
+      right-is = omega (arith, again-size, ap (λ (v : Expr). length (encode (leftOf v))) again-is)
+
+      pub again-inside : n ≤ length after
+      again-inside = ready-inside w after n again-ready
+
+      pub again-whole : Whole (part 0 n after)
+      again-whole = ready-whole w after n again-ready
+
+      pub again-kind : arityOf (getD (part 0 n after) 0 0) ≡ accepted 2
+      again-kind = ready-arity w after n again-ready 2 again-arity
+
       -- the constant's words are the last two
-      pub again-right : n - 2 ≡ 2 + length (encode (leftOf (treeAt after)))
-      again-right = omega (arith, again-size, ap (λ (v : Expr). length (encode (leftOf v))) again-is)
+      pub again-right : n - 2 ≡ 2 + length (encode (leftOf (treeAt (part 0 n after))))
+      again-right = ready-right w after n again-ready (n - 2) right-is
+
+      pub again-short : length (part 0 n after) ≤ 1024
+      again-short = ready-short w after n again-ready
 
       pub again-falls : (k : ℕ) → len ≡ k → n < k
       again-falls k f = omega (arith, shorter joins, n-is joins after n wr)
@@ -418,4 +433,6 @@ module _ (w : ℕ) (k : Binary) (l r : Expr) (rest ws : List ℕ) (e : ws ≡ bi
   pub two-right : (n : ℕ) → n ≡ 2 + length (encode l) → n ≡ 2 + length (encode (leftOf (treeAt ws)))
   two-right n f = f ∙ ap (λ (v : Expr). 2 + length (encode (leftOf v))) (sym two-tree)
 
-pub ruleset settlingTwo = (ready-inside, ready-whole, ready-arity, ready-right, ready-short, stays, two-replaceable, two-settled, join-replaceable, again-ready, again-arity, again-right, again-falls, again-fits, join-settled)
+pub ruleset settlingTwo = (ready-inside, ready-whole, ready-arity, ready-right, ready-short)
+
+pub ruleset rewritingTwo = (stays, two-replaceable, two-settled, join-replaceable, again-ready, again-arity, again-inside, again-whole, again-kind, again-right, again-short, again-falls, again-fits, join-settled)

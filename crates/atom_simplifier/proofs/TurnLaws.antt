@@ -42,16 +42,11 @@ use Rattle.atom_simplifier.proofs.SettleLaws.{ends-long, ready-inside, 
 
 -- ---- `settle_one`
 
-module _ (w : ℕ) (ws : List ℕ) (len : ℕ) (r : Ready w ws len) (d : Decision) (h : (v : ℕ) → Decides (part 0 len ws) d (localRewrite v (treeAt (part 0 len ws)))) where
-  pub one-stays : d ≡ Nothing → EndsAt w (treeAt ws) len ws ws len 0
-  one-stays e = stays w ws len r d (h w) e
+-- what is decided of a node over one child is so at every width
+pub decided-at : (w : ℕ) (node : List ℕ) (d : Decision) → ((v : ℕ) → Decides node d (localRewrite v (treeAt node))) → Decides node d (localRewrite w (treeAt node))
+decided-at w node d h = h w
 
-  module _ (a : arityOf (getD ws 0 0) ≡ accepted 1) (z : OneOf (1 ∷ 2 ∷ 3 ∷ []) (tagOf the-type d)) where
-    pub one-can : Replaceable ws len d
-    one-can = one-replaceable w ws len r d (h w) a z
-
-    pub one-done : (after : List ℕ) (n : ℕ) → Writes (part 0 len ws) d ws after n → EndsAt w (treeAt ws) len ws after n 1
-    one-done after n wr = one-settled w ws len r d (h w) a z after n wr
+-- ---- `rewrite_one`
 
 -- the decision for De Morgan's law says what it needs
 turnable : (w : ℕ) (ws : List ℕ) (right len : ℕ) {t u : Expr} → Change t u → Front ws t → Exactly (part 0 len ws) t → Turns (part 0 len ws) right u → NoneBelow w t → len ≡ length (encode t) → len ≤ 1024
@@ -76,11 +71,11 @@ turnable w ws right len (turned-over (over {k} {j} {a} {b} d n)) f x m s e h =
       short = h;
     }
 
-module _ (w : ℕ) (ws : List ℕ) (len : ℕ) (r : Ready w ws len) (d : Decision) (h : (v : ℕ) → Decides (part 0 len ws) d (localRewrite v (treeAt (part 0 len ws)))) where
+module _ (w : ℕ) (ws : List ℕ) (len : ℕ) (r : Ready w ws len) (d : Decision) (h : Decides (part 0 len ws) d (localRewrite w (treeAt (part 0 len ws)))) where
   pub one-turnable : (right : ℕ) → d ≡ DeMorgan right → Turnable w ws right len
   unfolding Makes
   one-turnable right e =
-      let g = subst (λ (t : Expr). Decides (part 0 len ws) d (localRewrite w t)) (node-tree w ws len r) (h w) in
+      let g = subst (λ (t : Expr). Decides (part 0 len ws) d (localRewrite w t)) (node-tree w ws len r) h in
       let m = some-decided (part 0 len ws) d _ g (λ f. let y = ap (tagOf the-type) (sym e ∙ f) in omega arith) in
       turnable w ws right len (local-change w (treeAt ws) (m .0) (m .1)) (starts-front ws (r .starts)) (exact w ws len r)
       (subst (λ (x : Decision). Makes (part 0 len ws) x (m .0)) e (m .2)) (r .below) (r .len-is) (r .short)
@@ -314,10 +309,10 @@ module _ (w : ℕ) (ws : List ℕ) (right len : ℕ) (q : Turnable w ws right le
   pub turn-right : right ≤ len
   turn-right = omega (arith, q .place, size)
 
-  pub half-falls : (m : ℕ) → 2 * len ≡ m → 2 * (len - right) + 7 < m
+  pub half-falls : (m : ℕ) → 3 * len ≡ m → 3 * (len - right) + 10 < m
   half-falls m f = omega (arith, q .place, size, length-encode a, nodes-pos a)
 
-  pub first-falls : (m : ℕ) → 2 * len ≡ m → 2 * (right - 4) + 6 < m
+  pub first-falls : (m : ℕ) → 3 * len ≡ m → 3 * (right - 4) + 9 < m
   first-falls m f = omega (arith, q .place, size, length-encode b, nodes-pos b)
 
   operands-both : T (operandsOk a) × T (operandsOk b)
@@ -608,19 +603,24 @@ second-done w ws at right len third n count g after n₂ count₂ m = record { e
 
 -- ---- the measure falls from call to call
 
-pub turn-falls : (len m : ℕ) → 2 * len + 1 ≡ m → 2 * len < m
+pub rewrite-falls : (len m : ℕ) → 3 * len + 2 ≡ m → 3 * len + 1 < m
+rewrite-falls len m e = omega arith
+
+pub turn-falls : (len m : ℕ) → 3 * len + 1 ≡ m → 3 * len < m
 turn-falls len m e = omega arith
 
-pub not-falls : (len m : ℕ) → 2 * len + 6 ≡ m → 2 * (len + 2) + 1 < m
+pub not-falls : (len m : ℕ) → 3 * len + 9 ≡ m → 3 * (len + 2) + 2 < m
 not-falls len m e = omega arith
 
-pub second-call-falls : (right len m : ℕ) → 2 * (len - right) + 7 ≡ m → 2 * (len - right) + 6 < m
+pub second-call-falls : (right len m : ℕ) → 3 * (len - right) + 10 ≡ m → 3 * (len - right) + 9 < m
 second-call-falls right len m e = omega arith
 
 pub kind-turned : (ws : List ℕ) (j : ℕ) → j ≡ dualNumber (getD ws 2 0) → Turned ws (set ws 0 j)
 kind-turned ws j e = record { is = ap (set ws 0) e }
 
-pub ruleset settlingOne = (ready-inside, ready-whole, ready-arity, ready-short, one-stays, one-can, one-done, one-turnable, turn-falls)
+pub ruleset rewritingOne = (stays, one-replaceable, one-settled, one-turnable, turn-falls)
+
+pub ruleset settlingOne = (ready-inside, ready-whole, ready-arity, ready-short, decided-at, rewrite-falls)
 
 pub ruleset settlingOperand = (operand-inside, operand-long, operand-fits, inner-inside, not-not-done, free-words, not-scaled, not-fits, not-inside, not-room, not-ready, not-arity, put-inside, end-inside, operand-done, operand-kept, not-falls)
 

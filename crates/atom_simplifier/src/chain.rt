@@ -3,17 +3,17 @@
 // only what it has made is looked at again. The rewrites are those of the list, in another order only where none sees the other.
 ghost use mathlib.Core.Path.{_≡_};
 ghost use Prim.Native.Nat.{_+_, _≤_, _<_};
-ghost use lib.ListN.{length, getD};
+ghost use lib.ListN.{length, getD, replicate};
 ghost use Rattle.expr.specs.Outcome.{accepted};
 ghost use Rattle.expr.specs.Expr.{Unary, Binary, Expr, unary, binary, unaryNumber, binaryNumber, encode};
 ghost use Rattle.expr.specs.Parse.{arityOf};
-ghost use Rattle.expr.specs.Parts.{tail};
+ghost use Rattle.expr.specs.Parts.{tail, part};
 ghost use Rattle.expr.specs.Front.{Starts, Read, Gives, treeAt, leftOf};
-ghost use Rattle.rewriting.specs.AtomSimplifier.{not};
+ghost use Rattle.rewriting.specs.AtomSimplifier.{not, localRewrite};
 ghost use Rattle.atom_simplifier.specs.Calls.{chainAdmitted};
 ghost use Rattle.atom_simplifier.specs.Answers.{chainOutcome};
 ghost use Rattle.atom_simplifier.specs.Chained.{ChainGives};
-ghost use Rattle.atom_simplifier.specs.Contracts.{Laid, counted, loaded, Ready, Apart, Turnable, Turned, HalfTurned, HalfEnds, EndsAt, Loaded, HasLeft, IsBuilt, RightBuilt};
+ghost use Rattle.atom_simplifier.specs.Contracts.{Decides, Laid, counted, loaded, Ready, Apart, Turnable, Turned, HalfTurned, HalfEnds, EndsAt, Loaded, HasLeft, IsBuilt, RightBuilt};
 use crate::local;
 use crate::local::Decision;
 use crate::write;
@@ -125,17 +125,17 @@ fn pairs_at(ws: &[u64]) -> PairsRead
     }
 }
 
-// A node over two children without a site. What a fold makes of it may have a site at its root again.
-fn settle_two(node: &mut [u64], right: usize, len: usize, width: u32) -> Settled
-    requires { ⌜ Ready width (now node) len × (arityOf (getD (now node) 0 0) ≡ accepted 2) × (right ≡ 2 + length (encode (leftOf (treeAt (now node))))) × (width ≤ 64) ⌝ }
+// A node over two children without a site, with what was decided about it. A fold may make a node whose root has a site again.
+fn rewrite_two(node: &mut [u64], decided: Decision, len: usize, width: u32) -> Settled
+    requires { ⌜ Ready width (now node) len × (arityOf (getD (now node) 0 0) ≡ accepted 2) × Decides (part 0 len (now node)) decided (localRewrite width (treeAt (part 0 len (now node)))) × (width ≤ 64) ⌝ }
     ensures { λ r. ⌜ EndsAt width (treeAt (now (node .entry))) len (now (node .entry)) (now (node .exit)) (r .len) (r .count) ⌝ }
 {
-    let decided = local::binary_rewrite(&node[0..len], right, width);
     match decided {
         Decision::Nothing => Settled { len, count: 0 },
         Decision::Join(_, _, _) => {
             let all = write::replace(node, len, decided);
-            let again = settle_two(node, all - 2, all, width);
+            let next = local::binary_rewrite(&node[0..all], all - 2, width);
+            let again = rewrite_two(node, next, all, width);
             Settled {
                 len: again.len,
                 count: 1 + again.count,
@@ -146,6 +146,15 @@ fn settle_two(node: &mut [u64], right: usize, len: usize, width: u32) -> Settled
             count: 1,
         },
     }
+}
+
+// A node over two children without a site; the right one is at `right`.
+fn settle_two(node: &mut [u64], right: usize, len: usize, width: u32) -> Settled
+    requires { ⌜ Ready width (now node) len × (arityOf (getD (now node) 0 0) ≡ accepted 2) × (right ≡ 2 + length (encode (leftOf (treeAt (now node))))) × (width ≤ 64) ⌝ }
+    ensures { λ r. ⌜ EndsAt width (treeAt (now (node .entry))) len (now (node .entry)) (now (node .exit)) (r .len) (r .count) ⌝ }
+{
+    let decided = local::binary_rewrite(&node[0..len], right, width);
+    rewrite_two(node, decided, len, width)
 }
 
 // A node whose left child is at its end, up to `at`, and whose right child is a Not over the operand at `right`.
@@ -184,12 +193,11 @@ fn settle_de_morgan(node: &mut [u64], right: usize, len: usize, width: u32) -> S
     }
 }
 
-// A node over one child without a site.
-fn settle_one(node: &mut [u64], len: usize, width: u32) -> Settled
-    requires { ⌜ Ready width (now node) len × (arityOf (getD (now node) 0 0) ≡ accepted 1) × (width ≤ 64) ⌝ }
+// A node over one child without a site, with what was decided about it.
+fn rewrite_one(node: &mut [u64], decided: Decision, len: usize, width: u32) -> Settled
+    requires { ⌜ Ready width (now node) len × (arityOf (getD (now node) 0 0) ≡ accepted 1) × Decides (part 0 len (now node)) decided (localRewrite width (treeAt (part 0 len (now node)))) × (width ≤ 64) ⌝ }
     ensures { λ r. ⌜ EndsAt width (treeAt (now (node .entry))) len (now (node .entry)) (now (node .exit)) (r .len) (r .count) ⌝ }
 {
-    let decided = local::unary_rewrite(&node[0..len]);
     match decided {
         Decision::Nothing => Settled { len, count: 0 },
         Decision::DeMorgan(right) => settle_de_morgan(node, right, len, width),
@@ -198,6 +206,15 @@ fn settle_one(node: &mut [u64], len: usize, width: u32) -> Settled
             count: 1,
         },
     }
+}
+
+// A node over one child without a site.
+fn settle_one(node: &mut [u64], len: usize, width: u32) -> Settled
+    requires { ⌜ Ready width (now node) len × (arityOf (getD (now node) 0 0) ≡ accepted 1) × (width ≤ 64) ⌝ }
+    ensures { λ r. ⌜ EndsAt width (treeAt (now (node .entry))) len (now (node .entry)) (now (node .exit)) (r .len) (r .count) ⌝ }
+{
+    let decided = local::unary_rewrite(&node[0..len]);
+    rewrite_one(node, decided, len, width)
 }
 
 // A Not over the operand of `len` words at `from`, which has no site; what it comes to is put at the front. Where the operand is a Not, the two
@@ -294,6 +311,16 @@ fn build(ws: &[u64], width: u32, work: &mut [u64]) -> Built
     }
 }
 
+fn clear(work: &mut [u64])
+    ensures { λ r. ⌜ now (work .exit) ≡ replicate (length (now (work .entry))) 0 ⌝ }
+{
+    let mut i = 0;
+    while i < work.len() {
+        work[i] = 0;
+        i += 1;
+    }
+}
+
 // The end tree of the input in the work, and zeros behind it to the end.
 pub fn chain(words: &[u64], width: u32, var_widths: &[u32], work: &mut [u64]) -> ChainAnswer
     ensures { λ r. ⌜ ChainGives (chainAdmitted (now (words .entry)) width (now («var_widths» .entry)) (length (now (work .entry)))) width (now («var_widths» .entry)) (now (work .entry)) (now (work .exit)) (chainOutcome r) ⌝ }
@@ -307,7 +334,7 @@ pub fn chain(words: &[u64], width: u32, var_widths: &[u32], work: &mut [u64]) ->
             }
             let built = build(words, width, work);
             let len = built.len;
-            write::clear(&mut work[len..]);
+            clear(&mut work[len..]);
             ChainAnswer::End(len / 2, built.count)
         }
     }

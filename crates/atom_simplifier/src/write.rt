@@ -2,7 +2,7 @@
 ghost use mathlib.Core.Path.{_≡_};
 ghost use mathlib.Core.List.{[], _∷_, _++_};
 ghost use Prim.Native.Nat.{_+_, _≤_, _<_};
-ghost use lib.ListN.{length, getD, replicate};
+ghost use lib.ListN.{length, getD};
 ghost use Rattle.expr.specs.Parts.{part};
 ghost use Rattle.atom_simplifier.specs.Contracts.{copied, dualNumber, Laid, Writable, Writes, Replaceable};
 use crate::local::Decision;
@@ -140,15 +140,5 @@ pub(crate) fn replace(node: &mut [u64], len: usize, local: Decision) -> usize
             4 + n
         }
         _ => len,
-    }
-}
-
-pub(crate) fn clear(ws: &mut [u64])
-    ensures { λ r. ⌜ now (ws .exit) ≡ replicate (length (now (ws .entry))) 0 ⌝ }
-{
-    let mut i = 0;
-    while i < ws.len() {
-        ws[i] = 0;
-        i += 1;
     }
 }

@@ -1,17 +1,17 @@
--- `atom_simplifier::write::clear` meets its contract. The measure is the words that are left. Assumes nothing.
+-- `atom_simplifier::chain::clear` meets its contract. The measure is the words that are left. Assumes nothing.
 use Prim.Native.Nat.{_-_}
 use lib.ListN.{length, replicate}
 use borrow.Author.Needs.{needs}
 use Rattle.atom_simplifier.proofs.InPlaceLaws.{clearing}
 use Rattle.atom_simplifier.proofs.WriteLaws.{Copied, copied-long}
-use Rattle.atom_simplifier.proofs.write.clear.Statement.{statement}
-use Rattle.atom_simplifier.proofs.write.clear.Tie as tie
+use Rattle.atom_simplifier.proofs.chain.clear.Statement.{statement}
+use Rattle.atom_simplifier.proofs.chain.clear.Tie as tie
 
 abbrev Inv-loop : tie.InvT-loop
-Inv-loop ws₀ i₀ ws i = Copied (replicate (length ws₀) 0) ws₀ ws i
+Inv-loop work₀ i₀ work i = Copied (replicate (length work₀) 0) work₀ work i
 
 abbrev μ-loop : tie.MeasureT-loop
-μ-loop ws₀ i₀ ws i = length ws₀ - i
+μ-loop work₀ i₀ work i = length work₀ - i
 
 ruleset rules = (needs, clearing, copied-long)
 
