@@ -4,7 +4,7 @@ use crate::core::{arith, expr_utils};
 use crate::fields::{self, hex, narrow};
 use crate::refusal::{self, Refusal};
 use crate::words;
-use crate::{cost, rewrite, value, width};
+use crate::{chain, cost, rewrite, value, width};
 
 pub fn answer(request: &str) -> Result<String, String> {
     let mut fields = request.split(' ');
@@ -17,6 +17,9 @@ pub fn answer(request: &str) -> Result<String, String> {
         ("same_words", [left, right]) => Ok(hex(u64::from(same_words(left, right)))),
         ("is_better", [candidate, baseline]) => cost::is_better(candidate, baseline),
         (_, [call, words]) => rewrite::answer(name, call, words),
+        ("chain" | "chain_times", [call, widths, words]) => {
+            chain::answer(name, call, &fields::all_narrow(widths)?, words)
+        }
         ("value", [&[w], widths, setting, words]) => {
             value::value(words, narrow(w)?, &fields::all_narrow(widths)?, setting)
         }

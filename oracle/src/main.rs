@@ -22,6 +22,7 @@ mod ir {
 mod orchestrator;
 
 mod answer;
+mod chain;
 mod cost;
 mod fields;
 mod refusal;

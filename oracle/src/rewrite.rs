@@ -93,7 +93,8 @@ fn repeated<T>(call: &Call, tree: &Expr, rewrite: fn(&Expr, u32) -> T) -> T {
     rewrite(tree, call.width)
 }
 
-fn listed(tree: &Expr) -> String {
+/// The words of a tree, with a space before each.
+pub fn listed(tree: &Expr) -> String {
     let words = words::write(tree);
     words.iter().map(|word| format!(" {word:x}")).collect()
 }

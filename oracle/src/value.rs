@@ -24,7 +24,8 @@ pub fn value(words: &[u64], w: u32, widths: &[u32], setting: &[u64]) -> Result<S
     })
 }
 
-fn one_width(words: &[u64], w: u32, widths: &[u32]) -> Result<Arc<Expr>, Refusal> {
+/// The tree, or the first refusal of 1, 2 to 7, 8.
+pub fn one_width(words: &[u64], w: u32, widths: &[u32]) -> Result<Arc<Expr>, Refusal> {
     if !(1..=64).contains(&w) {
         return Err(plain(1));
     }
