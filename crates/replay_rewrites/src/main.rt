@@ -7,7 +7,7 @@ use requests::text::find;
 
 mod answer;
 mod calls;
-mod lent;
+mod lent_path;
 
 fn put_line(out: &mut [u8], have: usize, line: &[u8]) -> usize {
     let echoed = put(out, have, line);

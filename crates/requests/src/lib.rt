@@ -3,6 +3,7 @@
 ghost use mathlib.Core.Path.{_≡_};
 ghost use lib.ListN.{length};
 
+pub mod lent;
 pub mod output;
 pub mod text;
 

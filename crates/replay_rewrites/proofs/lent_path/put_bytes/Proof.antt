@@ -1,10 +1,10 @@
--- `replay_rewrites::lent::put_bytes` is safe and ends. Assumes nothing.
+-- `replay_rewrites::lent_path::put_bytes` is safe and ends. Assumes nothing.
 use mathlib.Core.Path.{_≡_}
 use Prim.Native.Nat.{_≤_, _-_}
 use borrow.Author.Needs.{needs}
 use lib.ListN.{length}
-use Rattle.replay_rewrites.proofs.lent.put_bytes.Statement.{statement}
-use Rattle.replay_rewrites.proofs.lent.put_bytes.Tie as tie
+use Rattle.replay_rewrites.proofs.lent_path.put_bytes.Statement.{statement}
+use Rattle.replay_rewrites.proofs.lent_path.put_bytes.Tie as tie
 
 abbrev Inv-loop : tie.InvT-loop
 Inv-loop out₀ have bytes waiting₀ i₀ out waiting i = (length out ≡ length out₀) × (i ≤ length bytes)

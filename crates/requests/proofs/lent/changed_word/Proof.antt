@@ -1,9 +1,9 @@
--- `replay_rewrites::lent::changed_word` is safe and ends. Assumes nothing.
+-- `requests::lent::changed_word` is safe and ends. Assumes nothing.
 use Prim.Native.Nat.{_≤_, _-_}
 use borrow.Author.Needs.{needs}
 use lib.ListN.{length}
-use Rattle.replay_rewrites.proofs.lent.changed_word.Statement.{statement}
-use Rattle.replay_rewrites.proofs.lent.changed_word.Tie as tie
+use Rattle.requests.proofs.lent.changed_word.Statement.{statement}
+use Rattle.requests.proofs.lent.changed_word.Tie as tie
 
 abbrev Inv-loop : tie.InvT-loop
 Inv-loop words from i₀ i = from ≤ i

@@ -1,29 +1,30 @@
--- `replay_rewrites::lent::mark_bytes` is safe and ends. Assumes nothing.
+-- `requests::lent::mark_words` is safe and ends. Assumes nothing.
 use mathlib.Core.Path.{_≡_}
 use Prim.Native.Nat.{_≤_, _-_}
 use borrow.Author.Needs.{needs}
 use native.Mathlib.Omega.{arith}
 use lib.ListN.{length, length-set}
-use Rattle.replay_rewrites.proofs.lent.mark_bytes.Statement.{statement}
-use Rattle.replay_rewrites.proofs.lent.mark_bytes.Tie as tie
+use Rattle.requests.proofs.lent.mark_words.Statement.{statement}
+use Rattle.requests.proofs.lent.mark_words.Tie as tie
 
 abbrev Inv-loop : tie.InvT-loop
-Inv-loop bytes₀ i₀ bytes i = (length bytes ≡ length bytes₀) × (i ≤ length bytes)
+Inv-loop words₀ i₀ words i = (length words ≡ length words₀) × (i ≤ length words)
 
 abbrev μ-loop : tie.MeasureT-loop
-μ-loop bytes₀ i₀ bytes i = length bytes₀ - i
+μ-loop words₀ i₀ words i = length words₀ - i
 
 loop-again : tie.Need-loop-again Inv-loop μ-loop
 loop-again c = simp length-set (omega arith)
 
-pub mark-bytes-spec : {M : Type 1} → statement M
-mark-bytes-spec =
+pub mark-words-spec : {M : Type 1} → statement M
+mark-words-spec =
     tie.close
     (tie.spec
     Inv-loop
     μ-loop
     (λ c. search needs)
     (λ c κs. search needs)
+    (λ c. search needs)
     (λ c. search needs)
     (λ c. search needs)
     (λ c. search needs)
