@@ -1,10 +1,10 @@
 #!/usr/bin/env python3
-"""Prints the requests of a test program, replay or replay_rewrites, the same ones at every run."""
+"""Prints the requests of a test program, replay, replay_rewrites or replay_chain, the same ones at every run."""
 import sys
 
 sys.dont_write_bytecode = True  # the repository stays as it is
 
-from lists import arithmetic, costs, readme, refusals, rewrites, trees, values, widths
+from lists import arithmetic, chains, costs, readme, refusals, rewrites, trees, values, widths
 from lists.common import Random
 
 
@@ -26,5 +26,10 @@ def of_replay_rewrites():
     return rewrites.requests(Random)
 
 
-for line in dict.fromkeys({"replay": of_replay, "replay_rewrites": of_replay_rewrites}[sys.argv[1]]()):
+def of_replay_chain():
+    return chains.requests(Random)
+
+
+programs = {"replay": of_replay, "replay_rewrites": of_replay_rewrites, "replay_chain": of_replay_chain}
+for line in dict.fromkeys(programs[sys.argv[1]]()):
     print(line)

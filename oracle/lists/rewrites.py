@@ -279,15 +279,18 @@ def deep_trees(rng):
     return lines
 
 
-def worked():
-    """Document 01's cases, and the README's example."""
+def worked_trees():
+    """Document 01's cases and the README's example, each with its width."""
     a, b = X, Y
-    trees = [(AND + [0, 3] + [0, 1], 64), (AND + [0, 3] + [0, 1], 2), (AND + [0, 3] + [0, 1], 1), (AND + [0, 1] + [0, 3], 64),
-             (AND + [0, 1] + [0, 3], 2), (XOR + a + a, 8), (OR + a + [0, 0x1FF], 8), (OR + [0, 0x1FF] + a, 8), (OR + a + [0, 0xFF], 8),
-             (AND + AND + [0, 0xF] + a + [0, 0x3C], 8), (AND + AND + a + [0, 0xF] + [0, 0x3C], 8),
-             (XOR + XOR + a + [0, 5] + [0, 5], 8), (NOT + AND + NOT + a + b, 8), (OR + NOT + NOT + a + NOT + b, 8),
-             (OR + a + NOT + b, 8)]
-    return [line for words, width in trees for line in both(words, width)] + [site(NOT + AND + NOT + a + b, 8, 13)]
+    return [(AND + [0, 3] + [0, 1], 64), (AND + [0, 3] + [0, 1], 2), (AND + [0, 3] + [0, 1], 1), (AND + [0, 1] + [0, 3], 64),
+            (AND + [0, 1] + [0, 3], 2), (XOR + a + a, 8), (OR + a + [0, 0x1FF], 8), (OR + [0, 0x1FF] + a, 8), (OR + a + [0, 0xFF], 8),
+            (AND + AND + [0, 0xF] + a + [0, 0x3C], 8), (AND + AND + a + [0, 0xF] + [0, 0x3C], 8),
+            (XOR + XOR + a + [0, 5] + [0, 5], 8), (NOT + AND + NOT + a + b, 8), (OR + NOT + NOT + a + NOT + b, 8),
+            (OR + a + NOT + b, 8)]
+
+
+def worked():
+    return [line for words, width in worked_trees() for line in both(words, width)] + [site(NOT + AND + NOT + X + Y, 8, 13)]
 
 
 def repeated():
@@ -324,7 +327,8 @@ def widths():
     return lines
 
 
-def no_trees():
+def no_tree_lists():
+    """Lists that are no trees, and some at the limits that are."""
     full = NOT + balanced([VARIABLE] * 256)
     many = [full, full + [0], balanced([CONSTANT] * 257), full + CONSTANT]
     deep = [words for count in (63, 64) for words in (nots(count), left_chain(count, X), right_chain(count, X))]
@@ -333,7 +337,11 @@ def no_trees():
     lists += [[kind, 0] for kind in (2, 4, 7, 9, 10, 13)] + [[kind, 0] + X for kind in (2, 4, 6, 13)]
     lists += [X * 2, VARIABLE + ADD, over(13, 0, VARIABLE) + [MAX, MAX], NOT + NOT + X + X, nots(8) + NOT]
     lists += [words for tree in (AND + X + X, NOT + NOT + X, SHR0 + X) for words in broken(tree)]
-    lines = [line for words in FEW_WORDS + lists + deep + many for line in both(words, 8, 1100)]
+    return FEW_WORDS + lists + deep + many
+
+
+def no_trees():
+    lines = [line for words in no_tree_lists() for line in both(words, 8, 1100)]
     for words in with_two_refusals() + [BAD_OPERAND, X * 2, AND + X]:
         lines += both(words, 8, 1100) + [site(words, 8, 0, 0), local(words, 8, 0)]
     return lines
