@@ -2,15 +2,20 @@
 ghost use mathlib.Core.Path.{_≡_};
 ghost use Prim.Native.Nat.{_≤_, _*_, min, max};
 ghost use lib.ListN.{length};
+ghost use Rattle.requests.specs.Lent.{mark, Marked};
 use crate::output::put;
 use crate::output::put_field;
 
 // No stored tree has such a word; they differ from place to place.
-fn word_mark(i: usize) -> u64 {
-    0xa5c3_0000_0000_0000 | i as u64
+fn word_mark(i: usize) -> u64
+    ensures { λ r. ⌜ r ≡ mark i ⌝ }
+{
+    i as u64 | 0xa5c3_0000_0000_0000
 }
 
-pub fn mark_words(words: &mut [u64]) {
+pub fn mark_words(words: &mut [u64])
+    ensures { λ r. ⌜ Marked (now (words .exit)) (length (now (words .entry))) ⌝ }
+{
     let mut i = 0;
     while i < words.len() {
         words[i] = word_mark(i);

@@ -1,5 +1,5 @@
-// What the test programs share: requests as text, and text to standard output. Nothing here is asked of a caller, so that a program
-// proves no more than its own places.
+// What the test programs share: requests as text, text to standard output, and the words that a call is lent. Nothing here is asked of a
+// caller, so that a program proves no more than its own places.
 ghost use mathlib.Core.Path.{_≡_};
 ghost use lib.ListN.{length};
 

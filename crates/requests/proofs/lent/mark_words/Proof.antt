@@ -1,20 +1,24 @@
--- `requests::lent::mark_words` is safe and ends. Assumes nothing.
+-- `requests::lent::mark_words` meets its contract. The measure is what is left of the words. Assumes nothing.
 use mathlib.Core.Path.{_≡_}
-use Prim.Native.Nat.{_≤_, _-_}
+use Prim.Native.Nat.{_-_}
 use borrow.Author.Needs.{needs}
 use native.Mathlib.Omega.{arith}
 use lib.ListN.{length, length-set}
+use Rattle.requests.specs.Lent.{Marked}
+use Rattle.requests.proofs.LentLaws.{marking}
 use Rattle.requests.proofs.lent.mark_words.Statement.{statement}
 use Rattle.requests.proofs.lent.mark_words.Tie as tie
 
 abbrev Inv-loop : tie.InvT-loop
-Inv-loop words₀ i₀ words i = (length words ≡ length words₀) × (i ≤ length words)
+Inv-loop words₀ i₀ words i = (length words ≡ length words₀) × Marked words i
 
 abbrev μ-loop : tie.MeasureT-loop
 μ-loop words₀ i₀ words i = length words₀ - i
 
-loop-again : tie.Need-loop-again Inv-loop μ-loop
-loop-again c = simp length-set (omega arith)
+ruleset rules = (needs, marking)
+
+-- few rules, so that `search` can try every way with a wrong mark
+ruleset step = (marking, length-set, arith)
 
 pub mark-words-spec : {M : Type 1} → statement M
 mark-words-spec =
@@ -22,12 +26,12 @@ mark-words-spec =
     (tie.spec
     Inv-loop
     μ-loop
-    (λ c. search needs)
-    (λ c κs. search needs)
-    (λ c. search needs)
-    (λ c. search needs)
-    (λ c. search needs)
-    (λ c. search needs)
-    loop-again
-    (λ c. search needs)
-    (λ c. search needs))
+    (λ c. search rules)
+    (λ c κs. search rules)
+    (λ c. search rules)
+    (λ c. search rules)
+    (λ c. search rules)
+    (λ c. search rules)
+    (λ c. search step)
+    (λ c. search rules)
+    (λ c. search rules))
