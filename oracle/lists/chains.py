@@ -137,7 +137,8 @@ def made_equal(rng):
     lines = []
     for turn in range(360):
         width = random_width(rng)
-        t = [closed, busy][turn % 2](rng, width, 2 + rng.below(20), *[False] * (turn % 2 == 0))
+        nodes = 2 + rng.below(20)
+        t = busy(rng, width, nodes) if turn % 2 else closed(rng, width, nodes, False)
         u = [t, near(rng, t, width), NOT + NOT + t, SHR0 + t, NOT + NOT + near(rng, t, width)][turn % 5]
         words = near_forms(t, u, [NEG + X, Y][turn % 2])[turn % 9]
         lines.append(random_chain(rng, words, width))
@@ -213,7 +214,8 @@ def gone_down_in_512(rng, count, levels, make):
 
 
 def full_trees(rng):
-    """Of 512 nodes: with many sites, with none, with De Morgan at the root or all the way down, with equal halves; ten times 47 Nots."""
+    """Of 512 nodes: with many sites, with none, with De Morgan at the root or all the way down, with equal halves,
+    with Nots over Or(a, Not b) in ten places."""
     lines = []
     for turn in range(16):
         width = random_width(rng)
