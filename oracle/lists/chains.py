@@ -277,7 +277,8 @@ def sizes():
 def repeated():
     """The requests for measuring, with small counts."""
     words = NOT + AND + NOT + X + Y
-    return [request("chain_times", [8, size, times], listed, tree)
+    return [request(name, [8, size, times], listed, tree)
+            for name in ("chain_times", "chain_loop_times")
             for tree in (words, XOR + X + X, NOT * 9 + OR + X + NOT + Y, BAD_KIND, CAST)
             for size, times, listed in ((60, 1, []), (60, 3, [8]), (61, 17, [8, 8]), (3, 5, []), (60, 2, [9]))]
 

@@ -129,3 +129,8 @@ def room_of_2048():
     for place in range(0, 36, 4):
         leaves[place] = NOT + leaves[place]
     return NOT * 8 + level_by_level(leaves, [OR, AND])
+
+
+def halves(levels, last):
+    """And over two trees that differ in their last leaf alone, and so down to the leaves."""
+    return AND + halves(levels - 1, levels) + halves(levels - 1, last) if levels else [1, last]

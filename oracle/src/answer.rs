@@ -17,7 +17,7 @@ pub fn answer(request: &str) -> Result<String, String> {
         ("same_words", [left, right]) => Ok(hex(u64::from(same_words(left, right)))),
         ("is_better", [candidate, baseline]) => cost::is_better(candidate, baseline),
         (_, [call, words]) => rewrite::answer(name, call, words),
-        ("chain" | "chain_times", [call, widths, words]) => {
+        ("chain" | "chain_times" | "chain_loop_times", [call, widths, words]) => {
             chain::answer(name, call, &fields::all_narrow(widths)?, words)
         }
         ("value", [&[w], widths, setting, words]) => {

@@ -7,6 +7,7 @@ use crate::passes::atom_simplifier::access;
 use crate::refusal::{self, plain, Refusal};
 use crate::rewrite::listed;
 use crate::value::one_width;
+use crate::words;
 use std::hint::black_box;
 use std::sync::Arc;
 
@@ -22,8 +23,13 @@ struct Call {
 
 pub fn answer(name: &str, call: &[u64], widths: &[u32], words: &[u64]) -> Result<String, String> {
     match (name, call) {
-        ("chain", &[w, work]) => chain(&read_call(w, work, 1)?, widths, words),
-        ("chain_times", &[w, work, times]) => chain(&read_call(w, work, times)?, widths, words),
+        ("chain", &[w, work]) => chain(&read_call(w, work, 1)?, widths, words, whole),
+        ("chain_times", &[w, work, times]) => {
+            chain(&read_call(w, work, times)?, widths, words, whole)
+        }
+        ("chain_loop_times", &[w, work, times]) => {
+            chain(&read_call(w, work, times)?, widths, words, loop_alone)
+        }
         _ => Err(format!("no request {name} of {} numbers", call.len())),
     }
 }
@@ -39,12 +45,28 @@ fn read_call(width: u64, work: u64, times: u64) -> Result<Call, String> {
     })
 }
 
-fn chain(call: &Call, widths: &[u32], words: &[u64]) -> Result<String, String> {
+/// What is repeated for measuring: from a call, its widths and words, and the tree that they stand for.
+type Repeated = fn(&Call, &[u32], &[u64], &Arc<Expr>);
+
+/// What the proved call does: words are read and checked, and the end tree's words are written.
+fn whole(call: &Call, widths: &[u32], words: &[u64], _: &Arc<Expr>) {
+    if let Ok(tree) = accepted(call, widths, words) {
+        let (end, count) = end_of(&tree, call.width);
+        black_box((words::write(&end), count));
+    }
+}
+
+/// The original's functions on a tree that is built and checked.
+fn loop_alone(call: &Call, _: &[u32], _: &[u64], tree: &Arc<Expr>) {
+    black_box(end_of(tree, call.width));
+}
+
+fn chain(call: &Call, widths: &[u32], words: &[u64], repeat: Repeated) -> Result<String, String> {
     Ok(match accepted(call, widths, words) {
         Err(r) => format!("{} / kept", refusal::text(r)),
         Ok(tree) => {
             for _ in 1..call.times {
-                black_box(end_of(black_box(&tree), black_box(call.width)));
+                repeat(call, widths, black_box(words), black_box(&tree));
             }
             let (end, count) = end_of(&tree, call.width);
             format!("{:x} {count:x} /{} / zero", node_count(&end), listed(&end))
