@@ -12,10 +12,10 @@ use Rattle.rewriting.specs.AtomSimplifier.{firstSite}
 use Rattle.rewriting.specs.Measures.{D, occurrences}
 use Rattle.rewriting.specs.Chain.{Listed, lastOf}
 
--- the chain of the tree t, of one width at width w and the widths of the variables, has handed back n nodes and `count` rewrites and left the
--- words `after` in the work
+-- for the tree t, which is of one width at width w and the widths of the variables, the chain has answered n nodes and `count` rewrites and
+-- left the words `after` in the work
 pub record Chained (w : ℕ) (widths : List ℕ) (t : Expr) (after : List ℕ) (n count : ℕ) : Type 0 where
-  -- the list of trees, of which the end tree is the last, and one more than the rewrites
+  -- document 01's list of trees; the end tree is its last, and the rewrites are one fewer than the trees
   pub trees : List Expr
   pub listed : Listed w t trees
   pub end : Expr

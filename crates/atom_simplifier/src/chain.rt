@@ -1,6 +1,7 @@
 // The chain. Document 01's list of trees begins with the input, and each next tree is the one before after the rewrite at its first site; its
-// last tree, the end tree, has no site. The end tree is built from the words of the input, a node after its children, so that after a rewrite
-// only what it has made is looked at again. The rewrites are those of the list, in another order only where none sees the other.
+// last tree, the end tree, has no site. The end tree is built in the work from the words of the input, a node after its children, so that after
+// a rewrite only what it has made is looked at again. The rewrites are those of the list, in its order, but that De Morgan's law and the double
+// Not that it makes are one move of words: the work never holds more nodes than the input has.
 ghost use mathlib.Core.Path.{_≡_};
 ghost use Prim.Native.Nat.{_+_, _≤_, _<_};
 ghost use lib.ListN.{length, getD, replicate};

@@ -76,6 +76,10 @@ module _ (w : ℕ) where
   pub ends-count : {t u : Expr} {k : ℕ} → Ends w t u k → k ≤ nodes t - 1 + 2 * D t
   ends-count {t} {u} s = omega (arith, falls s, nodes-pos u)
 
+  -- the rewrites, one fewer than the trees of the list
+  pub listed-count : {t : Expr} {trees : List Expr} → Listed w t trees → length trees - 1 ≤ nodes t - 1 + 2 * D t
+  listed-count {t} {trees} l = ends-count (listed-ends t trees l)
+
   pub count-small : {t u : Expr} {k : ℕ} → Ends w t u k → nodes t ≤ 1024 → k ≤ 4194304
   count-small {t} s h = omega (arith, ends-count s, D-small t h)
 
@@ -153,6 +157,9 @@ module _ (w : ℕ) where
     listed-variables = at-each variables-last
 
   -- ---- the end tree
+
+  pub last-nodes : {t : Expr} {trees : List Expr} → Listed w t trees → nodes (lastOf t trees) ≤ nodes t
+  last-nodes {t} {trees} l = ends-nodes w (listed-ends t trees l)
 
   module _ {t u : Expr} {k : ℕ} where
     pub ends-depth : Ends w t u k → depth u ≤ depth t

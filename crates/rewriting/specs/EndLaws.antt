@@ -84,10 +84,6 @@ module _ (w : ℕ) where
   unfolding firstRewrite
   right-still k l r e = neither (binary k l) (firstRewrite w r) _ (neither (λ u. binary k u r) (firstRewrite w l) _ e .1) .0
 
-  pub leaf-below : (k : Leaf) → NoneBelow w (leaf k)
-  unfolding SitesBelow
-  leaf-below k = record { is = tt }
-
   pub unary-below : (k : Unary) (t : Expr) → firstRewrite w t ≡ none → NoneBelow w (unary k t)
   unfolding SitesBelow
   unary-below k t e = record { is = e }
