@@ -6,7 +6,7 @@ from .rewrites import grown, halved, near_forms, no_tree_lists, parts, random_wi
 from .sites import (ADD, AND, BITWISE, NEG, NOT, OR, X, XOR, Y, Z, above, closed, comb, near, ones, put_in, quiet, site_forms,
                     some_site)
 from .stacks import (MOST_WORK, SHR0, SHR1, between, busy, going_down, largest_room, leftward, level_by_level, numbered, other_leaf,
-                     room, room_of_2048, sized, some_leaf)
+                     pairs_of_2048, room, room_of_2048, sized, some_leaf)
 from .trees import with_two_refusals
 
 WIDTHS = [1, 2, 8, 64]
@@ -251,10 +251,10 @@ def deep_trees(rng):
 # The room
 
 def largest():
-    """n + D at 2,048, and the largest that a tree has, each with a word less and a word more."""
+    """n + D at 2,048, also with the largest D for it, and the largest that a tree has, each with a word less and a word more."""
     lines = []
     leaves = [NOT * (number % 9 == 0) + [1, number] for number in range(215)]
-    for words in (room_of_2048(), largest_room()):
+    for words in (room_of_2048(), pairs_of_2048(), largest_room()):
         need = room(words)
         lines += [chain(words, 8, size) for size in (need, need - 1, need + 1, need - 2, need + 2, 0)]
     same = largest_room([X] * 229)

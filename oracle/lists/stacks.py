@@ -131,6 +131,13 @@ def room_of_2048():
     return NOT * 8 + level_by_level(leaves, [OR, AND])
 
 
+def pairs_of_2048():
+    """n + D = 2,048 with D = 1,922: 56 Nots over 34 And and Or, with one more over 18 of these. No such tree has a larger D: 125 nodes have
+    at most 62 × 31 pairs."""
+    leaves = [[1, number] for number in range(35)]
+    return NOT * 56 + AND + NOT + level_by_level(leaves[:19], [OR, AND]) + level_by_level(leaves[19:], [OR, AND])
+
+
 def halves(levels, last):
     """And over two trees that differ in their last leaf alone, and so down to the leaves."""
     return AND + halves(levels - 1, levels) + halves(levels - 1, last) if levels else [1, last]

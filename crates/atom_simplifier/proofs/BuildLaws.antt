@@ -1,11 +1,11 @@
 -- The end tree, built from the words of the input. Assumes nothing.
 use mathlib.Core.Path.{_≡_, refl, sym, ap, ap₂, subst, _∙_}
-use mathlib.Core.List.{List, [], _∷_, _++_, append-assoc}
-use Prim.Native.Nat.{ℕ, _+_, _*_, _-_, _^_, _≤_, _<_}
+use mathlib.Core.List.{List, [], _∷_, _++_}
+use Prim.Native.Nat.{ℕ, _+_, _*_, _-_, _≤_, _<_}
 use native.Mathlib.Omega.{arith}
 use lib.Dec.{T}
-use lib.ListN.{length, take, drop, getD, length-append, length-drop}
-use lib.Seq.{take-at, drop-at, length-take-le}
+use lib.ListN.{length, take, drop, getD, length-append}
+use lib.Seq.{take-at}
 use mir.Facts.{yes-and}
 use mir.Syntax.{w64}
 use mir.Val.{Fits}
@@ -14,15 +14,15 @@ use Rattle.expr.specs.declared.refusal.Refusal.{Refusal}
 use Rattle.expr.specs.declared.Arity.{Arity}
 use Rattle.expr.specs.declared.Arity.the-variants as arity
 use Rattle.expr.specs.Outcome.{accepted}
-use Rattle.expr.specs.Expr.{Binary, Expr, leaf, unary, binary, unaryNumber, unaryOperand, binaryNumber, encode, nodes}
+use Rattle.expr.specs.Expr.{Binary, Expr, unary, binary, unaryNumber, unaryOperand, binaryNumber, encode, nodes}
 use Rattle.expr.specs.ExprLaws.{nodes-pos, length-encode}
 use Rattle.expr.specs.Parse.{arityOf, operandOk, operandsOk}
 use Rattle.expr.specs.Answers.{arityOutcome}
 use Rattle.expr.specs.Parts.{tail}
-use Rattle.expr.specs.TailLaws.{tail-drop, length-tail}
-use Rattle.expr.specs.Front.{Front, Starts, treeAt, leftOf}
-use Rattle.expr.specs.FrontLaws.{LeafNode, UnaryNode, BinaryNode, leaf-node, unary-node, binary-node, has-node, has-kind, has-operand, child-starts, left-starts, no-kind}
-use Rattle.expr.specs.PartLaws.{tail-short, front-tree, starts-front}
+use Rattle.expr.specs.TailLaws.{length-tail}
+use Rattle.expr.specs.Front.{Starts, treeAt, leftOf}
+use Rattle.expr.specs.FrontLaws.{UnaryNode, BinaryNode, leaf-node, has-node, has-kind, child-starts, no-kind}
+use Rattle.expr.specs.PartLaws.{tail-short, starts-front}
 use Rattle.rewriting.specs.AtomSimplifier.{firstRewrite}
 use Rattle.rewriting.specs.EndLaws.{Ends, done, no-site, leaf-still, ends-left, ends-right, ends-unary}
 use Rattle.rewriting.specs.NodesLaws.{ends-nodes}
@@ -31,7 +31,7 @@ use Rattle.atom_simplifier.specs.Contracts.{Laid, loaded, Ready, EndsAt,
 use Rattle.atom_simplifier.proofs.WriteLaws.{put-tail, laid-length}
 use Rattle.atom_simplifier.proofs.OperandLaws.{arity-one, arity-two}
 use Rattle.atom_simplifier.proofs.SearchLaws.{node-is, u, b, both-are, two-length, right-starts, right-inside, front-inside}
-use Rattle.atom_simplifier.proofs.SettleLaws.{ends-long, one-tree, one-ready, one-arity, two-tree, two-ready, two-arity, two-right}
+use Rattle.atom_simplifier.proofs.SettleLaws.{one-tree, one-ready, one-arity, two-tree, two-ready, two-arity, two-right}
 
 -- ---- `load`
 

@@ -16,7 +16,7 @@ use Rattle.expr.specs.declared.refusal.Refusal.{Refusal}
 use Rattle.expr.specs.declared.Counted.{Counted}
 use Rattle.expr.specs.declared.Counted.the-variants as count
 use Rattle.expr.specs.Refusals.{refusal, reasonOf}
-use Rattle.expr.specs.Outcome.{Outcome, refused, accepted, mapped, _andThen_}
+use Rattle.expr.specs.Outcome.{Outcome, refused, accepted, mapped}
 use Rattle.expr.specs.OutcomeLaws.{then-accepted, Made, mapped-made, refused-then}
 use Rattle.expr.specs.Expr.{Expr, encode, nodes}
 use Rattle.expr.specs.ExprLaws.{length-encode}
@@ -34,7 +34,7 @@ use Rattle.rewriting.specs.Measures.{D}
 use Rattle.rewriting.specs.MeasureLaws.{D-small}
 use Rattle.rewriting.specs.EndLaws.{Ends, no-site}
 use Rattle.rewriting.specs.NodesLaws.{ends-nodes}
-use Rattle.rewriting.specs.ChainLaws.{EndsIn, ends-listed, ends-count, no-first-site, ends-lent, ends-value, ends-uniform, ends-valid, ends-depth, ends-variables}
+use Rattle.rewriting.specs.ChainLaws.{ends-listed, ends-count, no-first-site, ends-lent, ends-value, ends-uniform, ends-valid, ends-depth, ends-variables}
 use Rattle.atom_simplifier.specs.declared.chain.Pairs.{Pairs}
 use Rattle.atom_simplifier.specs.Calls.{withWork, chainAdmitted}
 use Rattle.atom_simplifier.specs.Contracts.{counted, IsBuilt}

@@ -1,10 +1,10 @@
 -- Words that are moved to the front of the words that they stand in, and words that are cleared. Assumes nothing.
 use mathlib.Core.Path.{_≡_, refl, sym, ap, ap₂, subst, _∙_}
 use mathlib.Core.List.{List, [], _∷_, _++_, append-nil}
-use Prim.Native.Nat.{ℕ, _+_, _*_, _-_, _^_, _≤_, _<_}
+use Prim.Native.Nat.{ℕ, _+_, _-_, _^_, _≤_, _<_}
 use native.Mathlib.Omega.{arith}
 use lib.ListN.{length, take, drop, getD, set, replicate, take-append-drop, length-append, length-drop, length-set, length-replicate, getD-replicate, drop-of-length-le}
-use lib.Seq.{take-at, take-all, length-take-le, getD-append-add, getD-take, getD-drop, drop-drop}
+use lib.Seq.{take-all, length-take-le, getD-append-add, getD-take, getD-drop, drop-drop}
 use mir.Syntax.{w64}
 use mir.Val.{Fits}
 use borrow.Rule.Slice.PartMut.{putMid}

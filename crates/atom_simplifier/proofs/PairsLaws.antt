@@ -1,12 +1,12 @@
 -- The walk that counts a tree's pairs. Assumes nothing.
 use mathlib.Core.Path.{_≡_, refl, sym, ap, ap₂, _∙_}
 use mathlib.Core.List.{List}
-use Prim.Native.Nat.{ℕ, _+_, _*_, _≤_, _<_}
+use Prim.Native.Nat.{ℕ, _+_, _≤_, _<_}
 use native.Mathlib.Omega.{arith}
 use lib.ListN.{length, getD, length-append}
 use Rattle.expr.specs.declared.Arity.{Arity}
 use Rattle.expr.specs.declared.Arity.the-variants.{Zero, One, Two}
-use Rattle.expr.specs.Expr.{Leaf, Unary, Not, Neg, Shr, ZExt, SExt, Trunc, Binary, Add, Mul, And, Or, Xor, Concat, Expr, leaf, unary, binary, unaryNumber, binaryNumber, encode, nodes}
+use Rattle.expr.specs.Expr.{Unary, Not, Neg, Shr, ZExt, SExt, Trunc, Binary, Add, Mul, And, Or, Xor, Concat, Expr, unary, binary, unaryNumber, binaryNumber, encode, nodes}
 use Rattle.expr.specs.ExprLaws.{length-encode}
 use Rattle.expr.specs.Parse.{arityOf}
 use Rattle.expr.specs.Answers.{arityOutcome}

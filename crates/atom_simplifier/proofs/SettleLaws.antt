@@ -1,29 +1,26 @@
 -- A node whose children have no site, brought to the end of its list in its own place. Assumes nothing.
-use mathlib.Core.Path.{_≡_, refl, sym, ap, ap₂, subst, _∙_}
-use mathlib.Core.Logic.{_⊎_, inl, inr, ⊎-elim}
-use mathlib.Core.Bool.{true}
-use mathlib.Core.List.{List, [], _∷_, _++_, append-assoc, append-nil}
+use mathlib.Core.Path.{_≡_, refl, sym, ap, subst, _∙_}
+use mathlib.Core.Logic.{⊎-elim}
+use mathlib.Core.List.{List, [], _∷_, _++_, append-assoc}
 use mathlib.Core.Option.{none, some}
-use Prim.Native.Nat.{ℕ, suc, _+_, _*_, _-_, _^_, _≤_, _<_}
+use Prim.Native.Nat.{ℕ, suc, _+_, _*_, _-_, _≤_, _<_}
 use native.Mathlib.Omega.{arith}
 use lib.Dec.{T}
 use lib.Ieee.Bits.{is-true}
-use lib.ListN.{length, take, drop, getD, length-append, length-drop, take-append-drop}
-use lib.Seq.{take-at, drop-at, drop-drop, length-take-le}
+use lib.ListN.{length, drop, getD, length-append, length-drop, take-append-drop}
+use lib.Seq.{drop-at, drop-drop, length-take-le}
 use mir.Facts.{yes-and}
-use mir.Syntax.{w64}
-use mir.Val.{Fits}
 use denote.Enum.Declared.{tagOf}
 use types.Run.{OneOf}
 use Rattle.expr.specs.Outcome.{accepted}
-use Rattle.expr.specs.Expr.{Constant, Unary, Not, Binary, Expr, leaf, unary, binary, unaryNumber, unaryOperand, binaryNumber, encode, nodes}
+use Rattle.expr.specs.Expr.{Constant, Unary, Not, Binary, Expr, unary, binary, unaryNumber, unaryOperand, binaryNumber, encode, nodes}
 use Rattle.expr.specs.ExprLaws.{nodes-pos, length-encode}
 use Rattle.expr.specs.KindLaws.{number-arity}
 use Rattle.expr.specs.Parse as kinds
 use Rattle.expr.specs.Parse.{arityOf, operandsOk}
-use Rattle.expr.specs.Parts.{tail, part}
-use Rattle.expr.specs.Front.{Front, Starts, Exactly, Whole, treeAt, leftOf, rightOf}
-use Rattle.expr.specs.PartLaws.{front-tree, front-part, starts-front, two-children}
+use Rattle.expr.specs.Parts.{part}
+use Rattle.expr.specs.Front.{Front, Exactly, Whole, treeAt, leftOf, rightOf}
+use Rattle.expr.specs.PartLaws.{front-tree, front-part, starts-front}
 use Rattle.expr.specs.SubtreeLaws.{even-part}
 use Rattle.rewriting.specs.AtomSimplifier.{constant, not, localRewrite, firstRewrite}
 use Rattle.rewriting.specs.ShapeLaws.{Less, DeMorgan, over, Change, less, turned-over, local-change}
@@ -33,7 +30,7 @@ use Rattle.rewriting.specs.ChainLaws.{count-small}
 use Rattle.atom_simplifier.specs.declared.local.Decision.{Decision}
 use Rattle.atom_simplifier.specs.declared.local.Decision.the-variants as local
 use Rattle.atom_simplifier.specs.declared.local.Decision.the-variants.{Nothing, Part, Join}
-use Rattle.atom_simplifier.specs.Contracts.{Holds, Joined, Turns, Makes, Decides, Laid, Writes, Replaceable, Ready, EndsAt}
+use Rattle.atom_simplifier.specs.Contracts.{Holds, Joined, Makes, Decides, Laid, Writes, Replaceable, Ready, EndsAt}
 use Rattle.atom_simplifier.proofs.local.Decision.{the-type}
 use Rattle.atom_simplifier.proofs.DecideLaws.{none-decided, some-decided, within-inside}
 use Rattle.atom_simplifier.proofs.SearchLaws.{whole-front, same-tree, front-inside, same-word}

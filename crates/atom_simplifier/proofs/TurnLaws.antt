@@ -1,39 +1,35 @@
 -- De Morgan's law in place: either operand gets its Not and is brought to its end, and then the node. Assumes nothing.
 use mathlib.Core.Path.{_≡_, refl, sym, ap, ap₂, subst, _∙_}
 use mathlib.Core.Logic.{⊎-elim}
-use mathlib.Core.Bool.{_||_}
-use mathlib.Core.List.{List, [], _∷_, _++_, append-assoc, append-nil}
-use mathlib.Core.Option.{none, some}
-use Prim.Native.Nat.{ℕ, _+_, _*_, _-_, _^_, _≤_, _<_}
+use mathlib.Core.List.{List, [], _∷_, _++_, append-assoc}
+use mathlib.Core.Option.{none}
+use Prim.Native.Nat.{ℕ, _+_, _*_, _-_, _≤_, _<_}
 use native.Mathlib.Omega.{arith}
 use lib.Dec.{T}
-use lib.ListN.{length, take, drop, getD, set, length-append, length-drop, length-set, take-append-drop}
+use lib.ListN.{length, take, drop, getD, set, length-append, length-drop, length-set}
 use lib.Seq.{take-at, drop-at, drop-drop, length-take-le, getD-drop, getD-append-add}
-use mir.Facts.{and-yes, yes-and, or-yes}
+use mir.Facts.{and-yes, or-yes}
 use mir.Syntax.{w64}
 use mir.Val.{Fits}
 use denote.Enum.Declared.{tagOf}
-use types.Run.{OneOf}
 use borrow.Author.Tests.{eq-eqb}
 use borrow.Rule.Slice.PartMut.{putMid}
 use Rattle.expr.specs.Outcome.{accepted}
-use Rattle.expr.specs.Expr.{Unary, Not, Binary, Expr, leaf, unary, binary, unaryNumber, unaryOperand, binaryNumber, encode, nodes}
+use Rattle.expr.specs.Expr.{Unary, Not, Binary, Expr, leaf, unary, binary, binaryNumber, encode, nodes}
 use Rattle.expr.specs.ExprLaws.{nodes-pos, length-encode, encode-injective}
-use Rattle.expr.specs.KindLaws.{number-arity}
-use Rattle.expr.specs.Parse as kinds
 use Rattle.expr.specs.Parse.{arityOf, operandOk, operandsOk}
 use Rattle.expr.specs.Parts.{tail, part}
 use Rattle.expr.specs.TailLaws.{tail-drop, length-tail}
-use Rattle.expr.specs.Front.{Front, Starts, Exactly, treeAt, leftOf, rightOf}
+use Rattle.expr.specs.Front.{Front, Exactly, treeAt, leftOf}
 use Rattle.expr.specs.PartLaws.{front-tree, starts-front}
 use Rattle.rewriting.specs.AtomSimplifier.{not, isNot, localRewrite, firstRewrite}
 use Rattle.rewriting.specs.TestLaws.{not-kind→eq}
 use Rattle.rewriting.specs.ShapeLaws.{Dual, and-or, or-and, over, Change, less, turned-over, local-change}
-use Rattle.rewriting.specs.EndLaws.{Ends, NoneBelow, no-site, left-still, right-still, unary-below, binary-below, below-child, ends-right, ends-de-morgan, ends-not-not, not-not-ends}
+use Rattle.rewriting.specs.EndLaws.{Ends, NoneBelow, no-site, left-still, right-still, below-child, ends-right, ends-de-morgan, ends-not-not, not-not-ends}
 use Rattle.rewriting.specs.ChainLaws.{count-small}
 use Rattle.atom_simplifier.specs.declared.local.Decision.{Decision}
-use Rattle.atom_simplifier.specs.declared.local.Decision.the-variants.{Nothing, DeMorgan}
-use Rattle.atom_simplifier.specs.Contracts.{dualNumber, Turns, Makes, Decides, Laid, Writes, Replaceable, Ready, Apart, Turnable, Turned, Half, HalfTurned, HalfEnds, EndsAt}
+use Rattle.atom_simplifier.specs.declared.local.Decision.the-variants.{DeMorgan}
+use Rattle.atom_simplifier.specs.Contracts.{dualNumber, Turns, Makes, Decides, Laid, Ready, Apart, Turnable, Turned, Half, HalfTurned, HalfEnds, EndsAt}
 use Rattle.atom_simplifier.proofs.local.Decision.{the-type}
 use Rattle.atom_simplifier.proofs.DecideLaws.{some-decided}
 use Rattle.atom_simplifier.proofs.LocalLaws.{root-not, first-word}
