@@ -23,12 +23,13 @@ use Rattle.expr.specs.TailLaws.{length-tail}
 use Rattle.expr.specs.Front.{Starts, treeAt, leftOf}
 use Rattle.expr.specs.FrontLaws.{UnaryNode, BinaryNode, leaf-node, has-node, has-kind, child-starts, no-kind}
 use Rattle.expr.specs.PartLaws.{tail-short, starts-front}
+use Rattle.expr.specs.Lent.{Laid}
+use Rattle.expr.specs.LentLaws.{put-tail, laid-length}
 use Rattle.rewriting.specs.AtomSimplifier.{firstRewrite}
 use Rattle.rewriting.specs.EndLaws.{Ends, done, no-site, leaf-still, ends-left, ends-right, ends-unary}
 use Rattle.rewriting.specs.NodesLaws.{ends-nodes}
 use Rattle.rewriting.specs.ChainLaws.{count-small}
-use Rattle.atom_simplifier.specs.Contracts.{Laid, loaded, Ready, EndsAt, Loaded, LeftDone, HasLeft, Comes, IsBuilt, RightBuilt}
-use Rattle.atom_simplifier.proofs.WriteLaws.{put-tail, laid-length}
+use Rattle.atom_simplifier.specs.Contracts.{loaded, Ready, EndsAt, Loaded, LeftDone, HasLeft, Comes, IsBuilt, RightBuilt}
 use Rattle.atom_simplifier.proofs.OperandLaws.{arity-one, arity-two}
 use Rattle.atom_simplifier.proofs.SearchLaws.{node-is, u, b, both-are, two-length, right-starts, right-inside, front-inside}
 use Rattle.atom_simplifier.proofs.SettleLaws.{one-tree, one-ready, one-arity, two-tree, two-ready, two-arity, two-right}

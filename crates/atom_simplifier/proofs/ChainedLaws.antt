@@ -28,6 +28,7 @@ use Rattle.expr.specs.TailLaws.{length-tail}
 use Rattle.expr.specs.Front.{Front, Starts, Read, Gives, treeAt}
 use Rattle.expr.specs.FrontLaws.{parse-front}
 use Rattle.expr.specs.PartLaws.{front-tree}
+use Rattle.expr.specs.LentLaws.{put-tail}
 use Rattle.value.specs.Value.{oneWidth}
 use Rattle.value.specs.ValueLaws.{OneWidth, one-width-sound, one-width-complete}
 use Rattle.rewriting.specs.Measures.{D}
@@ -39,7 +40,6 @@ use Rattle.atom_simplifier.specs.declared.chain.Pairs.{Pairs}
 use Rattle.atom_simplifier.specs.Calls.{withWork, chainAdmitted}
 use Rattle.atom_simplifier.specs.Contracts.{counted, IsBuilt}
 use Rattle.atom_simplifier.specs.Chained.{Chained, ChainIs, ChainGives}
-use Rattle.atom_simplifier.proofs.WriteLaws.{put-tail}
 
 -- ---- the end of a list is all that document 01 asks of it
 

@@ -10,8 +10,9 @@ use mir.Val.{Fits}
 use borrow.Rule.Slice.PartMut.{putMid}
 use Rattle.expr.specs.Parts.{tail, part}
 use Rattle.expr.specs.TailLaws.{tail-drop, length-tail}
-use Rattle.atom_simplifier.specs.Contracts.{Laid}
-use Rattle.atom_simplifier.proofs.WriteLaws.{Copied, none-copied, one-copied, laid-length, laid-on}
+use Rattle.expr.specs.Lent.{Laid}
+use Rattle.expr.specs.LentLaws.{laid-length, laid-on}
+use Rattle.atom_simplifier.proofs.WriteLaws.{Copied, none-copied, one-copied}
 
 -- ---- `move_down`
 

@@ -14,9 +14,10 @@ use Rattle.expr.specs.Expr.{Expr, encode}
 use Rattle.expr.specs.ExprLaws.{prefix-free}
 use Rattle.expr.specs.Parts.{part}
 use Rattle.expr.specs.Front.{treeAt}
+use Rattle.expr.specs.Lent.{Laid}
 use Rattle.atom_simplifier.specs.declared.local.Decision.{Decision}
 use Rattle.atom_simplifier.specs.declared.local.Decision.the-variants.{Nothing, Part, Constant, Join, DeMorgan}
-use Rattle.atom_simplifier.specs.Contracts.{Joined, Makes, copied, Laid, Writes, Replaceable}
+use Rattle.atom_simplifier.specs.Contracts.{Joined, Makes, copied, Writes, Replaceable}
 use Rattle.atom_simplifier.proofs.local.Decision.{the-type}
 use Rattle.atom_simplifier.proofs.ReplacementLaws as in-node
 use Rattle.atom_simplifier.proofs.ReplacementLaws.{constant-written, part-written, join-written}

@@ -11,11 +11,12 @@ use Rattle.expr.specs.Expr.{Expr, binaryNumber, encode}
 use Rattle.expr.specs.ExprLaws.{nodes-pos, length-encode}
 use Rattle.expr.specs.TailLaws.{tail-drop}
 use Rattle.expr.specs.Parts.{part}
+use Rattle.expr.specs.Lent.{Laid}
 use Rattle.rewriting.specs.AtomSimplifier.{constant, not}
 use Rattle.atom_simplifier.specs.declared.local.Decision.{Decision}
 use Rattle.atom_simplifier.specs.declared.local.Decision.the-variants.{Nothing, Part, Constant, Join, DeMorgan}
 use Rattle.atom_simplifier.proofs.DecideLaws.{within-inside, within-part}
-use Rattle.atom_simplifier.specs.Contracts.{Holds, Joined, dualNumber, Turns, Makes, copied, Laid, Writable, Writes}
+use Rattle.atom_simplifier.specs.Contracts.{Holds, Joined, dualNumber, Turns, Makes, copied, Writable, Writes}
 
 -- ---- a part
 

@@ -25,6 +25,7 @@ use Rattle.expr.specs.TailLaws.{tail-drop, length-tail}
 use Rattle.expr.specs.Front.{Front, Starts, Whole, treeAt, leftOf}
 use Rattle.expr.specs.FrontLaws.{LeafNode, UnaryNode, BinaryNode, leaf-node, unary-node, binary-node, has-node, has-kind, child-starts, left-starts, no-kind}
 use Rattle.expr.specs.PartLaws.{tail-short, part-short, front-tree, front-part, starts-front, exact-tree, exact-whole}
+use Rattle.expr.specs.LentLaws.{put-tail}
 use Rattle.rewriting.specs.Optional.{map, _orElse_}
 use Rattle.rewriting.specs.AtomSimplifier as def
 use Rattle.rewriting.specs.AtomSimplifier.{localRewrite, here, below, firstSite}
@@ -39,7 +40,6 @@ use Rattle.atom_simplifier.proofs.local.Decision.{the-type}
 use Rattle.atom_simplifier.proofs.DecideLaws.{within-inside}
 use Rattle.atom_simplifier.proofs.LocalLaws.{first-word}
 use Rattle.atom_simplifier.proofs.OperandLaws.{arity-two}
-use Rattle.atom_simplifier.proofs.WriteLaws.{put-tail}
 
 -- ---- `at_root`
 

@@ -22,6 +22,7 @@ use Rattle.expr.specs.Parts.{part}
 use Rattle.expr.specs.Front.{Front, Exactly, Whole, treeAt, leftOf, rightOf}
 use Rattle.expr.specs.PartLaws.{front-tree, front-part, starts-front}
 use Rattle.expr.specs.SubtreeLaws.{even-part}
+use Rattle.expr.specs.Lent.{Laid}
 use Rattle.rewriting.specs.AtomSimplifier.{constant, not, localRewrite, firstRewrite}
 use Rattle.rewriting.specs.ShapeLaws.{Less, DeMorgan, over, Change, less, turned-over, local-change}
 use Rattle.rewriting.specs.KeptLaws.{local-operands}
@@ -30,7 +31,7 @@ use Rattle.rewriting.specs.ChainLaws.{count-small}
 use Rattle.atom_simplifier.specs.declared.local.Decision.{Decision}
 use Rattle.atom_simplifier.specs.declared.local.Decision.the-variants as local
 use Rattle.atom_simplifier.specs.declared.local.Decision.the-variants.{Nothing, Part, Join}
-use Rattle.atom_simplifier.specs.Contracts.{Holds, Joined, Makes, Decides, Laid, Writes, Replaceable, Ready, EndsAt}
+use Rattle.atom_simplifier.specs.Contracts.{Holds, Joined, Makes, Decides, Writes, Replaceable, Ready, EndsAt}
 use Rattle.atom_simplifier.proofs.local.Decision.{the-type}
 use Rattle.atom_simplifier.proofs.DecideLaws.{none-decided, some-decided, within-inside}
 use Rattle.atom_simplifier.proofs.SearchLaws.{whole-front, same-tree, front-inside, same-word}

@@ -22,6 +22,8 @@ use Rattle.expr.specs.Parts.{tail, part}
 use Rattle.expr.specs.TailLaws.{tail-drop, length-tail}
 use Rattle.expr.specs.Front.{Front, Exactly, treeAt, leftOf}
 use Rattle.expr.specs.PartLaws.{front-tree, starts-front}
+use Rattle.expr.specs.Lent.{Laid}
+use Rattle.expr.specs.LentLaws.{put-tail}
 use Rattle.rewriting.specs.AtomSimplifier.{not, isNot, localRewrite, firstRewrite}
 use Rattle.rewriting.specs.TestLaws.{not-kind→eq}
 use Rattle.rewriting.specs.ShapeLaws.{Dual, and-or, or-and, over, Change, less, turned-over, local-change}
@@ -29,11 +31,10 @@ use Rattle.rewriting.specs.EndLaws.{Ends, NoneBelow, no-site, left-still, right
 use Rattle.rewriting.specs.ChainLaws.{count-small}
 use Rattle.atom_simplifier.specs.declared.local.Decision.{Decision}
 use Rattle.atom_simplifier.specs.declared.local.Decision.the-variants.{DeMorgan}
-use Rattle.atom_simplifier.specs.Contracts.{dualNumber, Turns, Makes, Decides, Laid, Ready, Apart, Turnable, Turned, Half, HalfTurned, HalfEnds, EndsAt}
+use Rattle.atom_simplifier.specs.Contracts.{dualNumber, Turns, Makes, Decides, Ready, Apart, Turnable, Turned, Half, HalfTurned, HalfEnds, EndsAt}
 use Rattle.atom_simplifier.proofs.local.Decision.{the-type}
 use Rattle.atom_simplifier.proofs.DecideLaws.{some-decided}
 use Rattle.atom_simplifier.proofs.LocalLaws.{root-not, first-word}
-use Rattle.atom_simplifier.proofs.WriteLaws.{put-tail}
 use Rattle.atom_simplifier.proofs.SettleLaws.{ends-long, ready-inside, ready-whole, ready-arity, ready-short, node-tree, exact, stays, one-replaceable, one-settled, covered, covers, one-tree, one-ready, one-arity, two-ready, two-tree, two-arity, two-right}
 
 -- ---- `settle_one`

@@ -1,14 +1,14 @@
 -- What the public calls come to, and what the two that write a rewrite leave in the lent places. Definitions only.
-use mathlib.Core.List.{List, _++_}
+use mathlib.Core.List.{List}
 use mathlib.Core.Option.{Option, none, some}
 use Prim.Native.Nat.{ℕ, _+_, _*_}
 use lib.Dec.{ltb}
-use lib.ListN.{length, drop}
 use Rattle.arith.specs.Choice.{if_then_else_}
 use Rattle.expr.specs.Refusals.{refusal}
 use Rattle.expr.specs.Outcome.{Outcome, refused, accepted, mapped, _andThen_}
 use Rattle.expr.specs.Expr.{Expr, nodes}
 use Rattle.expr.specs.Parse.{parse}
+use Rattle.expr.specs.Lent.{over}
 use Rattle.width.specs.Width.{supported}
 use Rattle.value.specs.Value.{oneWidth}
 use Rattle.rewriting.specs.Measures.{D}
@@ -40,10 +40,6 @@ unfoldable pub chainAdmitted : List ℕ → ℕ → List ℕ → ℕ → Outcome
 chainAdmitted ws w widths room = oneWidth ws w widths andThen withWork room
 
 -- ---- what is written
-
--- lent places with xs at their front, and as they were behind it
-abbrev pub over : List ℕ → List ℕ → List ℕ
-over xs lent = xs ++ drop (length xs) lent
 
 -- the lent places after the call: f of the answer at their front, and unchanged where there is none or a refusal
 abbrev pub written : {A : Type 0} → (A → List ℕ) → Outcome (Option A) → List ℕ → List ℕ

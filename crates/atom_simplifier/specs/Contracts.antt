@@ -11,13 +11,13 @@ use Rattle.expr.specs.Expr.{Binary, Expr, binary, binaryNumber, encode}
 use Rattle.expr.specs.Parse.{operandsOk}
 use Rattle.expr.specs.Parts.{tail, part}
 use Rattle.expr.specs.Front.{Front, Starts, Whole, treeAt}
+use Rattle.expr.specs.Lent.{Laid}
 use Rattle.rewriting.specs.Optional.{_equalsSome_}
 use Rattle.rewriting.specs.AtomSimplifier as def
 use Rattle.rewriting.specs.AtomSimplifier.{constant, not, isNot, constantVal, unlessSame, Bitwise, and, or, xor, kindOf, arms, firstRewrite}
 use Rattle.rewriting.specs.Measures.{andOrs, D}
 use Rattle.rewriting.specs.ShapeLaws.{Dual}
 use Rattle.rewriting.specs.EndLaws.{Ends, NoneBelow}
-use Rattle.atom_simplifier.specs.Calls.{over}
 use Rattle.atom_simplifier.specs.declared.fold.ConstantVal.{ConstantVal}
 use Rattle.atom_simplifier.specs.declared.fold.ConstantVal.the-variants as val
 use Rattle.atom_simplifier.specs.declared.fold.Arm.{Arm}
@@ -123,10 +123,6 @@ pub record DecidesAt (k from : ℕ) (part : List ℕ) (d : Decision) (o : Option
 -- the words that are written for a part's words: the same, at every width
 unfoldable pub copied : ℕ → List ℕ → List ℕ
 copied w part = part
-
--- the words xs were written at the front, and nothing else
-pub record Laid (before after xs : List ℕ) : Type 0 where
-  pub is : after ≡ over xs before
 
 -- the decision makes a tree, and there is room for its words
 pub record Writable (ws : List ℕ) (d : Decision) (room : ℕ) : Type 0 where

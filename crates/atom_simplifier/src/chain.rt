@@ -10,11 +10,12 @@ ghost use Rattle.expr.specs.Expr.{Unary, Binary, Expr, unary, binary, unaryNumb
 ghost use Rattle.expr.specs.Parse.{arityOf};
 ghost use Rattle.expr.specs.Parts.{tail, part};
 ghost use Rattle.expr.specs.Front.{Starts, Read, Gives, treeAt, leftOf};
+ghost use Rattle.expr.specs.Lent.{Laid};
 ghost use Rattle.rewriting.specs.AtomSimplifier.{not, localRewrite};
 ghost use Rattle.atom_simplifier.specs.Calls.{chainAdmitted};
 ghost use Rattle.atom_simplifier.specs.Answers.{chainOutcome};
 ghost use Rattle.atom_simplifier.specs.Chained.{ChainGives};
-ghost use Rattle.atom_simplifier.specs.Contracts.{Decides, Laid, counted, loaded, Ready, Apart, Turnable, Turned, HalfTurned, HalfEnds, EndsAt, Loaded, HasLeft, IsBuilt, RightBuilt};
+ghost use Rattle.atom_simplifier.specs.Contracts.{Decides, counted, loaded, Ready, Apart, Turnable, Turned, HalfTurned, HalfEnds, EndsAt, Loaded, HasLeft, IsBuilt, RightBuilt};
 use crate::local;
 use crate::local::Decision;
 use crate::write;

@@ -4,7 +4,8 @@ ghost use mathlib.Core.List.{[], _∷_, _++_};
 ghost use Prim.Native.Nat.{_+_, _≤_, _<_};
 ghost use lib.ListN.{length, getD};
 ghost use Rattle.expr.specs.Parts.{part};
-ghost use Rattle.atom_simplifier.specs.Contracts.{copied, dualNumber, Laid, Writable, Writes, Replaceable};
+ghost use Rattle.expr.specs.Lent.{Laid};
+ghost use Rattle.atom_simplifier.specs.Contracts.{copied, dualNumber, Writable, Writes, Replaceable};
 use crate::local::Decision;
 use expr::kind;
 

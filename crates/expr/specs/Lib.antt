@@ -6,6 +6,7 @@ pub mod Parse
 pub mod Span
 pub mod Parts
 pub mod Front
+pub mod Lent
 pub mod SameWords
 pub mod Answers
 pub mod RefusalLaws
@@ -17,5 +18,6 @@ pub mod SameWordsLaws
 pub mod ParseLaws
 pub mod SpanLaws
 pub mod TailLaws
+pub mod LentLaws
 pub mod FrontLaws
 pub mod PartLaws

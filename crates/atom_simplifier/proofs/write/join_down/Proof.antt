@@ -1,7 +1,7 @@
 -- `atom_simplifier::write::join_down` meets its contract. Assumes nothing.
 use borrow.Author.Needs.{needs}
+use Rattle.expr.specs.LentLaws.{laid-length}
 use Rattle.atom_simplifier.proofs.InPlaceLaws.{joining}
-use Rattle.atom_simplifier.proofs.WriteLaws.{laid-length}
 use Rattle.atom_simplifier.proofs.write.join_down.Statement.{statement}
 use Rattle.atom_simplifier.proofs.write.join_down.Tie as tie
 

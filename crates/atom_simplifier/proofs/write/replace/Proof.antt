@@ -1,7 +1,7 @@
 -- `atom_simplifier::write::replace` meets its contract. Assumes nothing.
 use borrow.Author.Needs.{needs}
+use Rattle.expr.specs.LentLaws.{laid-length}
 use Rattle.atom_simplifier.proofs.ReplaceLaws.{inPlace}
-use Rattle.atom_simplifier.proofs.WriteLaws.{laid-length}
 use Rattle.atom_simplifier.proofs.write.replace.Statement.{statement}
 use Rattle.atom_simplifier.proofs.write.replace.Tie as tie
 
