@@ -1,0 +1,28 @@
+// Lines of any length out of chunks of any size. The bytes of a line that goes on in the next chunk are kept in a lent buffer; of a longer line
+// only as many as the buffer has places, so that a line without an end costs no memory.
+ghost use mathlib.Core.Path.{_≡_};
+ghost use lib.ListN.{length, take};
+ghost use Rattle.expr.specs.Lent.{over};
+ghost use Rattle.lines.specs.Lines.{upTo, hasEnd, usedOf, kept};
+
+// How many bytes of a chunk were read, how many of its line are kept, and whether the line has ended.
+pub struct Taken {
+    pub used: usize,
+    pub have: usize,
+    pub ended: bool,
+}
+
+// How many bytes stand before the first 0a; all of them where there is none.
+pub fn end_of(chunk: &[u8]) -> usize
+    ensures { λ r. ⌜ r ≡ length (upTo (now (chunk .entry))) ⌝ }
+{
+}
+
+// Reads a chunk up to its first 0a: keeps the bytes before it in `line`, behind the `have` that are kept there. A `have` past the end of `line`
+// stands for all of it.
+pub fn keep(chunk: &[u8], line: &mut [u8], have: usize) -> Taken
+    ensures { λ r. ⌜ (r .used ≡ usedOf (now (chunk .entry))) × (r .ended ≡ hasEnd (now (chunk .entry))) ⌝ }
+    ensures { λ r. ⌜ r .have ≡ length (kept (length (now (line .entry))) (take have (now (line .entry))) (now (chunk .entry))) ⌝ }
+    ensures { λ r. ⌜ now (line .exit) ≡ over (kept (length (now (line .entry))) (take have (now (line .entry))) (now (chunk .entry))) (now (line .entry)) ⌝ }
+{
+}
