@@ -24,19 +24,16 @@ pub enum FrameWritten {
 // How many nodes a line of so many bytes has, its 0a not counted; 0 where no frame has that length.
 pub fn nodes_in(bytes: usize) -> usize
     ensures { λ r. ⌜ r ≡ nodesIn bytes ⌝ }
-{
-}
+{}
 
 // Reads a line, with or without its one final 0a: puts the words of its tree at the front of `out`.
 pub fn read_frame(line: &[u8], out: &mut [u64]) -> FrameRead
     ensures { λ r. ⌜ readOutcome r ≡ mapped (λ p. (p .0, nodes (p .1))) (readFrame (now (line .entry)) (length (now (out .entry)))) ⌝ }
     ensures { λ r. ⌜ now (out .exit) ≡ left (λ p. encode (p .1)) (readFrame (now (line .entry)) (length (now (out .entry)))) (now (out .entry)) ⌝ }
-{
-}
+{}
 
 // Puts the frame of a tree, its 0a included, at the front of `out`.
 pub fn write_frame(words: &[u64], width: u32, out: &mut [u8]) -> FrameWritten
     ensures { λ r. ⌜ writtenOutcome r ≡ mapped (λ t. 3 + 18 * nodes t) (writeFrame (now (words .entry)) width (length (now (out .entry)))) ⌝ }
     ensures { λ r. ⌜ now (out .exit) ≡ left (frame width) (writeFrame (now (words .entry)) width (length (now (out .entry)))) (now (out .entry)) ⌝ }
-{
-}
+{}

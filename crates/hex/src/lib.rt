@@ -55,27 +55,23 @@ pub fn number(s: &[u8]) -> Number
 // Puts the last k digits of n at the front of `out`, or as many of the last digits as it has places.
 pub fn put_digits(n: u64, k: usize, out: &mut [u8])
     ensures { λ r. ⌜ now (out .exit) ≡ over (digits (min k (length (now (out .entry)))) n) (now (out .entry)) ⌝ }
-{
-}
+{}
 
 // Puts n without zeros in front at the front of `out`, or as many of its last digits as `out` has places; how many digits those are.
 pub fn put_number(n: u64, out: &mut [u8]) -> usize
     ensures { λ r. ⌜ r ≡ min (places n) (length (now (out .entry))) ⌝ }
     ensures { λ r. ⌜ now (out .exit) ≡ over (digits r n) (now (out .entry)) ⌝ }
-{
-}
+{}
 
 // Puts the words of the nodes whose digits `s` is at the front of `out`, as many whole nodes as `s` has and `out` has room for; whether each
 // byte that was read is a digit. The words are written also where one is not.
 pub fn read_nodes(s: &[u8], out: &mut [u64]) -> bool
     ensures { λ r. ⌜ r ≡ allDigits (take (18 * min (length (now (s .entry)) / 18) (length (now (out .entry)) / 2)) (now (s .entry))) ⌝ }
     ensures { λ r. ⌜ now (out .exit) ≡ over (wordsOf (min (length (now (s .entry)) / 18) (length (now (out .entry)) / 2)) (now (s .entry))) (now (out .entry)) ⌝ }
-{
-}
+{}
 
 // Puts the digits of nodes at the front of `out`, as many whole nodes as there are words for and `out` has room for. Of a kind its last two digits
 // are written.
 pub fn put_nodes(words: &[u64], out: &mut [u8])
     ensures { λ r. ⌜ now (out .exit) ≡ over (nodesText (min (length (now (words .entry)) / 2) (length (now (out .entry)) / 18)) (now (words .entry))) (now (out .entry)) ⌝ }
-{
-}
+{}

@@ -15,8 +15,7 @@ pub struct Taken {
 // How many bytes stand before the first 0a; all of them where there is none.
 pub fn end_of(chunk: &[u8]) -> usize
     ensures { λ r. ⌜ r ≡ length (upTo (now (chunk .entry))) ⌝ }
-{
-}
+{}
 
 // Reads a chunk up to its first 0a: keeps the bytes before it in `line`, behind the `have` that are kept there. A `have` past the end of `line`
 // stands for all of it.
@@ -24,5 +23,4 @@ pub fn keep(chunk: &[u8], line: &mut [u8], have: usize) -> Taken
     ensures { λ r. ⌜ (r .used ≡ usedOf (now (chunk .entry))) × (r .ended ≡ hasEnd (now (chunk .entry))) ⌝ }
     ensures { λ r. ⌜ r .have ≡ length (kept (length (now (line .entry))) (take have (now (line .entry))) (now (chunk .entry))) ⌝ }
     ensures { λ r. ⌜ now (line .exit) ≡ over (kept (length (now (line .entry))) (take have (now (line .entry))) (now (chunk .entry))) (now (line .entry)) ⌝ }
-{
-}
+{}

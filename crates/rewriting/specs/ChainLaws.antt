@@ -3,7 +3,7 @@ use mathlib.Core.Path.{_≡_, refl, sym, ap, subst, _∙_}
 use mathlib.Core.Bool.{Bool, true}
 use mathlib.Core.List.{List, [], _∷_}
 use mathlib.Core.Option.{Option, none, some}
-use Prim.Native.Nat.{ℕ, suc, _+_, _*_, _-_, _≤_}
+use Prim.Native.Nat.{ℕ, zero, suc, _+_, _*_, _-_, _≤_}
 use native.Mathlib.Nat.{le-refl, le-trans}
 use native.Mathlib.Omega.{arith}
 use lib.ListN.{length}
@@ -12,11 +12,11 @@ use Rattle.expr.specs.ExprLaws.{nodes-pos}
 use Rattle.expr.specs.Parse.{operandsOk, Valid}
 use Rattle.value.specs.Value.{value, isLent}
 use Rattle.width.specs.Width.{isUniformWidth}
-use Rattle.rewriting.specs.Optional.{_andThen_}
+use Rattle.rewriting.specs.Optional.{map, _otherwise_, _andThen_}
 use Rattle.rewriting.specs.OptionalLaws.{not-both, only-one}
 use Rattle.rewriting.specs.AtomSimplifier.{Site, firstSite, firstRewrite}
 use Rattle.rewriting.specs.Measures.{D, occurrences}
-use Rattle.rewriting.specs.Chain.{Listed, lastOf, _isAmong_, first, later}
+use Rattle.rewriting.specs.Chain.{Listed, lastOf, treesFrom, treesOf, _isAmong_, first, later}
 use Rattle.rewriting.specs.SiteLaws.{after, first-is, first-site}
 use Rattle.rewriting.specs.MeasureLaws.{first-lowers, D-small}
 use Rattle.rewriting.specs.KeptLaws.{first-keeps, first-variables, first-uniform, first-operands, first-lent, valid-kept}
@@ -90,6 +90,24 @@ module _ (w : ℕ) where
       go : (o : Option Site) → firstSite w t ≡ o → o ≡ none
       go none f = refl
       go (some s) f = not-both (firstRewrite w t) e (first-is w t ∙ ap (λ o. o andThen after t) f ∙ first-site w t s f .is-whole)
+
+  -- ---- the list as a function
+
+  trees-are : (k : ℕ) {t : Expr} {trees : List Expr} → Listed w t trees → length trees ≤ suc k → trees ≡ treesFrom k w t
+  unfolding treesFrom
+  trees-are zero (Listed.done e) h = refl
+  trees-are zero (Listed.more e r) h = absurd (omega (arith, not-empty r))
+  trees-are (suc k) (Listed.done {t} e) h = ap (λ o. t ∷ (map (treesFrom k w) o otherwise [])) (sym e)
+  trees-are (suc k) (Listed.more {t} e r) h =
+      ap (λ (l : List Expr). t ∷ l) (trees-are k r (omega arith)) ∙ ap (λ o. t ∷ (map (treesFrom k w) o otherwise [])) (sym e)
+
+  -- the list from t on is `treesOf`
+  pub listed-is : {t : Expr} {trees : List Expr} → Listed w t trees → trees ≡ treesOf w t
+  unfolding treesOf
+  listed-is {t} l = trees-are (nodes t + 2 * D t) l (omega (arith, listed-count l))
+
+  pub trees-listed : (t : Expr) → Listed w t (treesOf w t)
+  trees-listed t = let (trees, l) = listed-exists t in subst (Listed w t) (listed-is l) l
 
   -- ---- each tree of the list
 
