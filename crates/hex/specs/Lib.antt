@@ -1,2 +1,4 @@
 pub mod Hex
 pub mod Nodes
+pub mod HexLaws
+pub mod NodesLaws
