@@ -1,3 +1,4 @@
 pub mod Frame
 pub mod Answers
+pub mod Contracts
 pub mod FrameLaws

@@ -1,0 +1,72 @@
+-- Words that are checked at a width. Assumes nothing.
+use mathlib.Core.Path.{_≡_, refl, sym, ap, _∙_}
+use mathlib.Core.Bool.{Bool, true, false}
+use mathlib.Core.List.{List}
+use Prim.Native.Nat.{ℕ, _≤_, _<_}
+use native.Mathlib.Omega.{arith}
+use Rattle.arith.specs.Choice.{if_then_else_}
+use Rattle.expr.specs.declared.Counted.{Counted}
+use Rattle.expr.specs.declared.Counted.the-variants as counted
+use Rattle.expr.specs.Refusals.{refusal}
+use Rattle.expr.specs.Outcome.{Outcome, refused, accepted, mapped}
+use Rattle.expr.specs.OutcomeLaws.{mapped-made}
+use Rattle.expr.specs.Expr.{Expr, encode, nodes}
+use Rattle.expr.specs.Parse.{parse}
+use Rattle.expr.specs.ParseLaws.{parse-sound}
+use Rattle.expr.specs.Answers.{countedOutcome}
+use Rattle.width.specs.Width.{supported}
+use Rattle.width.specs.WidthLaws.{in-range, too-narrow, too-wide}
+use Rattle.frame.specs.Contracts.{checked}
+
+-- ---- `check`
+
+module _ (w : ℕ) (ws : List ℕ) where
+  refused-1 : supported w ≡ false → refused (refusal 1) ≡ mapped nodes (checked w ws)
+  unfolding checked
+  refused-1 e = rw e
+
+  pub narrow-refused : w < 1 → refused (refusal 1) ≡ mapped nodes (checked w ws)
+  narrow-refused h = refused-1 (sym (too-narrow w h))
+
+  pub wide-refused : 1 ≤ w → 65 ≤ w → refused (refusal 1) ≡ mapped nodes (checked w ws)
+  wide-refused p h = refused-1 (sym (too-wide w p h))
+
+  pub words-checked : 1 ≤ w → w < 65 → (x : Counted) → countedOutcome x ≡ mapped nodes (parse ws) → countedOutcome x ≡ mapped nodes (checked w ws)
+  unfolding checked
+  words-checked p q x e = rw (sym (in-range w p q)) e
+
+pub ruleset checking = (narrow-refused, wide-refused, words-checked)
+
+-- ---- what follows a check
+
+-- a refusal of the width stays, whatever is made of the tree
+pub checked-then : {B : Type 0} (w : ℕ) (ws : List ℕ) (f : Outcome Expr → Outcome B) → f (refused (refusal 1)) ≡ refused (refusal 1)
+    → (if supported w then f (parse ws) else refused (refusal 1)) ≡ f (checked w ws)
+unfolding checked
+checked-then w ws f e = go (supported w)
+  where
+    go : (b : Bool) → (if b then f (parse ws) else refused (refusal 1)) ≡ f (if b then parse ws else refused (refusal 1))
+    go true = refl
+    go false = sym e
+
+checked-parse : (w : ℕ) (ws : List ℕ) (t : Expr) → checked w ws ≡ accepted t → parse ws ≡ accepted t
+unfolding checked
+checked-parse w ws t = go (supported w)
+  where
+    go : (b : Bool) → (if b then parse ws else refused (refusal 1)) ≡ accepted t → parse ws ≡ accepted t
+    go true e = e
+    go false e = absurd (let z : _≡_ {A = ℕ} 0 1 = cc in omega arith)
+
+-- a tree that was checked, and how many nodes it has
+pub record Tree (w : ℕ) (ws : List ℕ) (n : ℕ) : Type 0 where
+  pub tree : Expr
+  pub is : checked w ws ≡ accepted tree
+  pub words : ws ≡ encode tree
+  pub count : nodes tree ≡ n
+  pub few : n ≤ 512
+
+pub checked-tree : (w : ℕ) (ws : List ℕ) (x : Counted) → countedOutcome x ≡ mapped nodes (checked w ws) → (n : ℕ) → x ≡ counted.Count n → Tree w ws n
+checked-tree w ws x h n e =
+    let m = mapped-made nodes (checked w ws) (ap countedOutcome (sym e) ∙ h) in
+    let a = parse-sound ws (m .answer) (checked-parse w ws (m .answer) (m .was)) in
+    record { tree = m .answer; is = m .was; words = a .words; count = m .made; few = omega (arith, m .made, a .valid .count) }
