@@ -22,6 +22,11 @@ linesFrom before (b ∷ bs) = if eqb b 10 then before ∷ linesFrom [] bs else l
 abbrev pub linesOf : List ℕ → List (List ℕ)
 linesOf bs = linesFrom [] bs
 
+-- how many line ends bytes have
+unfoldable pub endCount : List ℕ → ℕ
+endCount [] = 0
+endCount (b ∷ bs) = if eqb b 10 then suc (endCount bs) else endCount bs
+
 -- ---- the first line end of a chunk
 
 -- the bytes before it; all of them where there is none

@@ -1,0 +1,29 @@
+-- `lines::end_of` meets its contract. The measure is what is left of the chunk. Assumes nothing.
+use Prim.Native.Nat.{_-_}
+use lib.ListN.{length}
+use borrow.Author.Needs.{needs}
+use Rattle.lines.proofs.KeepLaws.{Looking, looking}
+use Rattle.lines.proofs.end_of.Statement.{statement}
+use Rattle.lines.proofs.end_of.Tie as tie
+
+abbrev Inv-loop : tie.InvT-loop
+Inv-loop chunk at₀ at = Looking chunk at
+
+abbrev μ-loop : tie.MeasureT-loop
+μ-loop chunk at₀ at = length chunk - at
+
+ruleset rules = (needs, looking)
+
+pub end-of-spec : {M : Type 1} → statement M
+end-of-spec =
+    tie.close
+    (tie.spec
+    Inv-loop
+    μ-loop
+    (λ c. search rules)
+    (λ c. search rules)
+    (λ c. search rules)
+    (λ c. search rules)
+    (λ c. search rules)
+    (λ c. search rules)
+    (λ c. search rules))
