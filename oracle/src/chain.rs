@@ -34,6 +34,23 @@ pub fn answer(name: &str, call: &[u64], widths: &[u32], words: &[u64]) -> Result
     }
 }
 
+/// The tree of a call with so many words lent, the last of its list, and how many stand before that.
+pub fn run(
+    width: u32,
+    work: u64,
+    widths: &[u32],
+    words: &[u64],
+) -> Result<(Arc<Expr>, Arc<Expr>, u64), Refusal> {
+    let call = Call {
+        width,
+        work,
+        times: 1,
+    };
+    let tree = accepted(&call, widths, words)?;
+    let (end, count) = end_of(&tree, width);
+    Ok((tree, end, count))
+}
+
 fn read_call(width: u64, work: u64, times: u64) -> Result<Call, String> {
     if work > MOST_WORK || times == 0 {
         return Err(format!("no such call: {work:x} {times:x}"));

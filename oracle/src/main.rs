@@ -1,4 +1,5 @@
-//! Reads one request a line and writes it back with its answer; README.md has the grammar.
+//! Reads one request a line and writes it back with its answer, or with the argument `report` frames; README.md has the grammar.
+use std::env;
 use std::io::{self, BufWriter, Write};
 use std::process::ExitCode;
 
@@ -26,6 +27,7 @@ mod chain;
 mod cost;
 mod fields;
 mod refusal;
+mod report;
 mod rewrite;
 mod value;
 mod width;
@@ -42,8 +44,17 @@ fn answer_all() -> Result<(), String> {
     out.flush().map_err(|e| e.to_string())
 }
 
+fn run() -> Result<(), String> {
+    let arguments: Vec<String> = env::args().skip(1).collect();
+    match &arguments.iter().map(String::as_str).collect::<Vec<_>>()[..] {
+        [] => answer_all(),
+        ["report"] => report::report(),
+        other => Err(format!("no such use: {other:?}")),
+    }
+}
+
 fn main() -> ExitCode {
-    match answer_all() {
+    match run() {
         Ok(()) => ExitCode::SUCCESS,
         Err(e) => {
             eprintln!("{e}");

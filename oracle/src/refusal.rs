@@ -8,6 +8,12 @@ pub struct Refusal {
     second: u32,
 }
 
+impl Refusal {
+    pub const fn number(self) -> u32 {
+        self.number
+    }
+}
+
 /// A refusal that carries zeros.
 pub const fn plain(number: u32) -> Refusal {
     Refusal {

@@ -1,0 +1,132 @@
+//! Document 01's report: a frame a line, and what the chain makes of it. Lines, frames, refusal 14 and the text are the harness's.
+use crate::answer::node_count;
+use crate::chain;
+use crate::core::expr::{Expr, Kind};
+use crate::refusal::{plain, Refusal};
+use crate::words;
+use std::fmt::Write as _;
+use std::io::{self, BufWriter, Read, Write};
+
+const MOST_LINES: usize = 65_535;
+const MOST_NODES: usize = 512;
+/// 2,048 nodes, in words.
+const WORK: u64 = 4096;
+
+/// The digits of a frame's width, of a node and of its kind.
+const WIDTH: usize = 2;
+const NODE: usize = 18;
+const KIND: usize = 2;
+
+/// What is told of an accepted line.
+struct Row {
+    before: u64,
+    after: u64,
+    rewrites: u64,
+    conditions: u64,
+    end: String,
+}
+
+/// For the closing line.
+#[derive(Default)]
+struct Totals {
+    lines: u64,
+    refused: u64,
+    before: u64,
+    after: u64,
+}
+
+pub fn report() -> Result<(), String> {
+    let mut input = Vec::new();
+    io::stdin()
+        .read_to_end(&mut input)
+        .map_err(|e| e.to_string())?;
+    write(&input, &mut BufWriter::new(io::stdout().lock())).map_err(|e| e.to_string())
+}
+
+fn write(input: &[u8], out: &mut impl Write) -> io::Result<()> {
+    let mut totals = Totals::default();
+    for line in input
+        .split_inclusive(|&byte| byte == b'\n')
+        .take(MOST_LINES)
+    {
+        totals.lines += 1;
+        match row(line.strip_suffix(b"\n").unwrap_or(line)) {
+            Err(refusal) => {
+                totals.refused += 1;
+                writeln!(out, "{:x} {:x} 0 0 0 0", totals.lines, refusal.number())?;
+            }
+            Ok(row) => {
+                totals.before += row.before;
+                totals.after += row.after;
+                writeln!(
+                    out,
+                    "{:x} 0 {:x} {:x} {:x} {:x}\n{}",
+                    totals.lines, row.before, row.after, row.rewrites, row.conditions, row.end
+                )?;
+            }
+        }
+    }
+    let left = (100 * totals.after)
+        .checked_div(totals.before)
+        .unwrap_or_default();
+    writeln!(out, "= {:x} {:x} {left:x}", totals.lines, totals.refused)?;
+    out.flush()
+}
+
+/// A line without its 0a.
+fn row(line: &[u8]) -> Result<Row, Refusal> {
+    let (width, words) = read(line).ok_or(plain(14))?;
+    let (tree, end, rewrites) = chain::run(width, WORK, &[], &words)?;
+    Ok(Row {
+        before: node_count(&tree),
+        after: node_count(&end),
+        rewrites,
+        conditions: conditions(&tree),
+        end: frame(width, &end),
+    })
+}
+
+/// The highest variable number plus one.
+fn conditions(tree: &Expr) -> u64 {
+    let own = match tree.kind {
+        Kind::Variable(number) => u64::from(number) + 1,
+        _ => 0,
+    };
+    let below = tree.children.iter().map(|child| conditions(child));
+    below.fold(own, u64::max)
+}
+
+/// The width and the words of a line that has the form of a frame.
+fn read(line: &[u8]) -> Option<(u32, Vec<u64>)> {
+    let digits = line.len().checked_sub(WIDTH)?;
+    if digits % NODE != 0 || digits == 0 || digits > MOST_NODES * NODE {
+        return None;
+    }
+    let (width, nodes) = line.split_at(WIDTH);
+    let mut words = Vec::new();
+    for node in nodes.chunks(NODE) {
+        let (kind, operand) = node.split_at(KIND);
+        words.extend([number(kind)?, number(operand)?]);
+    }
+    Some((u32::try_from(number(width)?).ok()?, words))
+}
+
+fn number(digits: &[u8]) -> Option<u64> {
+    digits.iter().try_fold(0, |n, &byte| {
+        let digit = match byte {
+            b'0'..=b'9' => byte - b'0',
+            b'a'..=b'f' => byte - b'a' + 10,
+            _ => return None,
+        };
+        Some(n << 4 | u64::from(digit))
+    })
+}
+
+/// The frame of a tree, without its 0a.
+fn frame(width: u32, tree: &Expr) -> String {
+    let mut text = format!("{width:02x}");
+    for node in words::write(tree).chunks(2) {
+        write!(text, "{:02x}{:016x}", node[0], node[1]).expect("a String takes every write");
+    }
+    text
+}
