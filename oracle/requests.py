@@ -1,10 +1,10 @@
 #!/usr/bin/env python3
-"""Prints the requests of a test program, replay, replay_rewrites or replay_chain, the same ones at every run."""
+"""Prints the requests of a test program, replay, replay_rewrites or replay_chain, or the table of report, the same at every run."""
 import sys
 
 sys.dont_write_bytecode = True  # the repository stays as it is
 
-from lists import arithmetic, chains, costs, readme, refusals, rewrites, trees, values, widths
+from lists import arithmetic, chains, costs, readme, refusals, rewrites, tables, trees, values, widths
 from lists.common import Random
 
 
@@ -31,5 +31,8 @@ def of_replay_chain():
 
 
 programs = {"replay": of_replay, "replay_rewrites": of_replay_rewrites, "replay_chain": of_replay_chain}
-for line in dict.fromkeys(programs[sys.argv[1]]()):
-    print(line)
+if sys.argv[1] == "report":
+    sys.stdout.buffer.write(tables.stored(Random))
+else:
+    for line in dict.fromkeys(programs[sys.argv[1]]()):
+        print(line)
