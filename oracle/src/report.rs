@@ -78,7 +78,7 @@ fn row(line: &[u8]) -> Result<Row, Refusal> {
     let (width, words) = read(line).ok_or(plain(14))?;
     let (tree, end, rewrites) = chain::run(width, WORK, &[], &words)?;
     Ok(Row {
-        before: node_count(&tree),
+        before: words.len() as u64 / 2,
         after: node_count(&end),
         rewrites,
         conditions: conditions(&tree),
@@ -103,7 +103,7 @@ fn read(line: &[u8]) -> Option<(u32, Vec<u64>)> {
         return None;
     }
     let (width, nodes) = line.split_at(WIDTH);
-    let mut words = Vec::new();
+    let mut words = Vec::with_capacity(2 * nodes.len() / NODE);
     for node in nodes.chunks(NODE) {
         let (kind, operand) = node.split_at(KIND);
         words.extend([number(kind)?, number(operand)?]);
@@ -125,8 +125,14 @@ fn number(digits: &[u8]) -> Option<u64> {
 /// The frame of a tree, without its 0a.
 fn frame(width: u32, tree: &Expr) -> String {
     let mut text = format!("{width:02x}");
-    for node in words::write(tree).chunks(2) {
-        write!(text, "{:02x}{:016x}", node[0], node[1]).expect("a String takes every write");
-    }
+    add_nodes(tree, &mut text);
     text
+}
+
+fn add_nodes(tree: &Expr, text: &mut String) {
+    let (kind, operand) = words::words_of(&tree.kind);
+    write!(text, "{kind:02x}{operand:016x}").expect("a String takes every write");
+    for child in &tree.children {
+        add_nodes(child, text);
+    }
 }

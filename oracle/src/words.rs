@@ -121,7 +121,7 @@ pub fn write(tree: &Expr) -> Vec<u64> {
     words
 }
 
-fn words_of(kind: &Kind) -> (u64, u64) {
+pub fn words_of(kind: &Kind) -> (u64, u64) {
     match *kind {
         Kind::Constant(word) => (0, word),
         Kind::Variable(number) => (1, number.into()),
