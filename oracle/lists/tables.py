@@ -4,13 +4,12 @@ from .common import BIG, MAX
 from .conditions import drawn, negated, several, stack
 from .refusals import CAST, OTHER, broken
 from .rewrites import no_tree_lists, parts, random_width, worked_trees
-from .sites import ADD, AND, BITWISE, NEG, NOT, OR, X, Y, comb, ones, quiet
+from .sites import ADD, AND, BITWISE, NEG, NOT, OR, X, Y, comb, quiet
 from .stacks import (SHR1, between, busy, depth, going_down, largest_room, leftward, level_by_level, numbered, other_leaf, pairs,
                      pairs_of_2048, room_of_2048, some_leaf)
 from .trees import with_two_refusals
 
 MOST_LINES = 65535
-MOST_BYTES = 2 + 18 * 512
 HIGHEST = [1, BIG - 1]  # the variable of the most conditions
 
 
@@ -141,7 +140,8 @@ def lines_of_9():
 
 def lines_of_3_to_7():
     """What is no tree, the orders between two refusals too."""
-    lists = no_tree_lists() + with_two_refusals() + [BAD_OPERAND, BAD_KIND, [255, 0], [13, 0] + X + BAD_KIND, NOT * 64 + X, leftward(1, 63, numbered())]
+    lists = no_tree_lists() + with_two_refusals()
+    lists += [BAD_OPERAND, BAD_KIND, [255, 0], [13, 0] + X + BAD_KIND, NOT * 64 + X, leftward(1, 63, numbered())]
     return [frame(words) for words in lists if has_frame(words) and len(words) <= 1024]
 
 
