@@ -1,0 +1,19 @@
+-- `report_lines::finish` meets its contract. Assumes nothing.
+use Rattle.report_lines.proofs.FeedLaws.{calls}
+use borrow.Author.Needs.{needs}
+use Rattle.report_lines.proofs.finish.Statement.{statement}
+use Rattle.report_lines.proofs.finish.Tie as tie
+
+ruleset rules = (needs, calls)
+
+pub finish-spec : {M : Type 1} → statement M
+finish-spec =
+    tie.close
+    (tie.spec
+    (λ c κs. search rules)
+    (λ c. search rules)
+    (λ c κs. search rules)
+    (λ c. search rules)
+    (λ c. search rules)
+    (λ c. search rules)
+    (λ c. search rules))

@@ -1,0 +1,26 @@
+-- `report_lines::line::done_line` meets its contract. Assumes nothing.
+use Rattle.report_lines.proofs.PrintedLaws.{accepting}
+use borrow.Author.Needs.{needs}
+use Rattle.report_lines.proofs.line.done_line.Statement.{statement}
+use Rattle.report_lines.proofs.line.done_line.Tie as tie
+
+ruleset rules = (needs, accepting)
+
+pub done-line-spec : {M : Type 1} → statement M
+done-line-spec =
+    tie.close
+    (tie.spec
+    (λ c. search rules)
+    (λ c κs. search rules)
+    (λ c. search rules)
+    (λ c κs. search rules)
+    (λ c. search rules)
+    (λ c. search rules)
+    (λ c. search rules)
+    (λ c κs. search rules)
+    (λ c. search rules)
+    (λ c. search rules)
+    (λ c. search rules)
+    (λ c. search rules)
+    (λ c. search rules)
+    (λ c. search rules))

@@ -1,0 +1,17 @@
+-- `report_lines::sound_totals` meets its contract. Assumes nothing.
+use Rattle.report_lines.proofs.ReadyLaws.{sound-sums}
+use borrow.Author.Needs.{needs}
+use Rattle.report_lines.proofs.sound_totals.Statement.{statement}
+use Rattle.report_lines.proofs.sound_totals.Tie as tie
+
+ruleset rules = (needs, sound-sums)
+
+pub sound-totals-spec : {M : Type 1} → statement M
+sound-totals-spec =
+    tie.close
+    (tie.spec
+    (λ c. search rules)
+    (λ c. search rules)
+    (λ c. search rules)
+    (λ c. search rules)
+    (λ c. search rules))

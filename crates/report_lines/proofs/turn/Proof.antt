@@ -1,0 +1,28 @@
+-- `report_lines::turn` meets its contract. Assumes nothing.
+use Rattle.report_lines.proofs.StepLaws.{turning}
+use borrow.Author.Needs.{needs}
+use Rattle.report_lines.proofs.turn.Statement.{statement}
+use Rattle.report_lines.proofs.turn.Tie as tie
+
+ruleset rules = (needs, turning)
+
+pub turn-spec : {M : Type 1} → statement M
+turn-spec =
+    tie.close
+    (tie.spec
+    (λ c κs. search rules)
+    (λ c. search rules)
+    (λ c. search rules)
+    (λ c. search rules)
+    (λ c. search rules)
+    (λ c κs. search rules)
+    (λ c. search rules)
+    (λ c. search rules)
+    (λ c. search rules)
+    (λ c. search rules)
+    (λ c κs. search rules)
+    (λ c. search rules)
+    (λ c. search rules)
+    (λ c. search rules)
+    (λ c. search rules)
+    (λ c. search rules))
