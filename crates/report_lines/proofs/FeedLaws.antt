@@ -22,6 +22,7 @@ use Rattle.report_lines.specs.declared.State.{State}
 use Rattle.report_lines.specs.declared.Step.{Step}
 use Rattle.report_lines.specs.Report.{outcomeOf, textOf, textsOf, noTotals, plus, totalsOf, sums, closing}
 use Rattle.report_lines.specs.Steps.{restOf, soundTotals, soundRoom, ready, Lent, Advances, FeedsIf, Feeds, FinishesIf, Finishes}
+use Rattle.report_lines.specs.ReportLaws.{rest-none, rest-full}
 use Rattle.report_lines.specs.Contracts.{Printed, Turnable, Turned, FeedsOn, FedOn, Fed, lastText, Finished}
 use Rattle.report_lines.proofs.ReadyLaws.{sound-open, SoundPlaces, places-open, places-shut}
 use Rattle.report_lines.proofs.TextLaws.{closing-most}
@@ -240,26 +241,6 @@ module _ (s : State) (line words work out : List ℕ) (b : Bool) (e : b ≡ read
 pub ruleset calls = (ready-yes, not-fed, feeds, not-finished, finishes)
 
 -- ---- `finish`
-
-plus-none : (t : Totals) → plus t noTotals ≡ t
-plus-none t =
-    ap₂ (λ (x y : ℕ). record { lines = x; refused = y; before = t .before + 0; after = t .after + 0 }) (let e : t .lines + 0 ≡ t .lines = omega arith in e) (let e : t .refused + 0 ≡ t .refused = omega arith in e)
-    ∙ ap₂ (λ (x y : ℕ). record { lines = t .lines; refused = t .refused; before = x; after = y }) (let e : t .before + 0 ≡ t .before = omega arith in e) (let e : t .after + 0 ≡ t .after = omega arith in e)
-
--- nothing is left but the closing line, after the last byte and after line 65,535
-rest-none : (t : Totals) → restOf t [] [] ≡ closing t
-unfolding restOf textsOf sums linesFrom lastLine
-rest-none t = go (65535 - t .lines)
-  where
-    go : (n : ℕ) → textsOf (t .lines + 1) (map outcomeOf (take n [])) ++ closing (plus t (sums (map outcomeOf (take n [])))) ≡ closing t
-    go zero = ap closing (plus-none t)
-    go (suc n) = ap closing (plus-none t)
-
-pub rest-full : (t : Totals) (kept bytes : List ℕ) → t .lines ≡ 65535 → restOf t kept bytes ≡ closing t
-unfolding restOf textsOf sums
-rest-full t kept bytes e =
-    ap (λ (n : ℕ). textsOf (t .lines + 1) (map outcomeOf (take n (linesFrom kept bytes))) ++ closing (plus t (sums (map outcomeOf (take n (linesFrom kept bytes)))))) (let z : 65535 - t .lines ≡ 0 = omega arith in z)
-    ∙ ap closing (plus-none t)
 
 -- the last line has no 0a
 last-line : (p : List ℕ) → 0 < length p → linesFrom p [] ≡ p ∷ linesFrom [] []

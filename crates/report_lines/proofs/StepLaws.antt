@@ -27,19 +27,13 @@ use Rattle.report_lines.specs.declared.State.{State}
 use Rattle.report_lines.specs.declared.Step.{Step}
 use Rattle.report_lines.specs.Report.{Done, done, chained, outcomeOf, fields, rowOf, textOf, textsOf, refusedLines, nodesBefore, nodesAfter, plus, totalsOf, sums, closing}
 use Rattle.report_lines.specs.Steps.{outcomesLeft, restOf, soundTotals, soundRoom, Advances}
+use Rattle.report_lines.specs.ReportLaws.{plus-plus}
 use Rattle.report_lines.specs.Contracts.{PrintedStep, Turnable, Turned}
 use Rattle.report_lines.proofs.ReadyLaws.{sound-open, sound-shut, places-open}
 use Rattle.report_lines.proofs.RanLaws.{admitted-tree}
 use Rattle.report_lines.proofs.TextLaws.{fields-most}
 
 -- ---- what is left
-
-plus-plus : (a b c : Totals) → plus a (plus b c) ≡ plus (plus a b) c
-plus-plus a b c =
-    ap₂ (λ (x y : ℕ). record { lines = x; refused = y; before = a .before + (b .before + c .before); after = a .after + (b .after + c .after) })
-    (let e : a .lines + (b .lines + c .lines) ≡ a .lines + b .lines + c .lines = omega arith in e) (let e : a .refused + (b .refused + c .refused) ≡ a .refused + b .refused + c .refused = omega arith in e)
-    ∙ ap₂ (λ (x y : ℕ). record { lines = a .lines + b .lines + c .lines; refused = a .refused + b .refused + c .refused; before = x; after = y })
-    (let e : a .before + (b .before + c .before) ≡ a .before + b .before + c .before = omega arith in e) (let e : a .after + (b .after + c .after) ≡ a .after + b .after + c .after = omega arith in e)
 
 -- a line is printed, and the rest after it
 pub rest-line : (t : Totals) (p bytes l more : List ℕ) → t .lines < 65535 → linesFrom p bytes ≡ l ∷ linesFrom [] more

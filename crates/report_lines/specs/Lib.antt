@@ -1,3 +1,4 @@
 pub mod Report
 pub mod Steps
 pub mod Contracts
+pub mod ReportLaws

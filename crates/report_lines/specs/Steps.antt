@@ -81,6 +81,11 @@ pub record Finishes (s : State) (before : Lent) (r : ℕ) (after : Lent) : Type 
 
 -- ---- an input in chunks
 
+-- all bytes of the chunks
+unfoldable pub joined : List (List ℕ) → List ℕ
+joined [] = []
+joined (chunk ∷ chunks) = chunk ++ joined chunks
+
 -- steps that lead through chunks from one state and line to another, and what they print together: an empty chunk is left behind, a step reads from
 -- the front of a chunk, and after line 65,535 the rest may stay unread
 pub data Stepped : State → List ℕ → List (List ℕ) → List ℕ → State → List ℕ → Type 0 where
