@@ -172,11 +172,14 @@ module _ (before after : ℕ) where
   unfolding percentageOf
   nothing-before e = rw e
 
-  pub some-before : (before ≡ 0 → ⊥) → 100 * after / before ≡ percentageOf before after
-  unfolding percentageOf
-  some-before f = simp (ne-eqb before 0 f)
+  pub not-nothing : (before ≡ 0 → ⊥) → 0 < before
+  not-nothing f = omega (arith, f)
 
-pub ruleset small = (more-follow, none-follows, nothing-before, some-before)
+  pub some-before : (before ≡ 0 → ⊥) → (q : ℕ) → q ≡ 100 * after / before → q ≡ percentageOf before after
+  unfolding percentageOf
+  some-before f q e = e ∙ simp (ne-eqb before 0 f)
+
+pub ruleset small = (more-follow, none-follows, nothing-before, not-nothing, some-before)
 
 -- ---- the closing line
 
@@ -191,6 +194,9 @@ fields-most (n ∷ m ∷ ns) =
 pub closing-most : (t : Totals) → length (closing t) ≤ 53
 unfolding closing
 closing-most t = omega (arith, fields-most (t .lines ∷ t .refused ∷ percentageOf (t .before) (t .after) ∷ []))
+
+pub before-small : (t : Totals) → soundTotals t ≡ true → t .before ≤ 33553920
+before-small t s = let o = sound-open t s in omega (arith, o .some-lines, o .some-before)
 
 pub after-small : (t : Totals) → soundTotals t ≡ true → t .after ≤ 33553920
 after-small t s = let o = sound-open t s in omega (arith, o .some-lines, o .some-after)
@@ -230,4 +236,4 @@ closing-count t p k e f =
     ap (λ (x : ℕ). 2 + x) f ∙ ap (λ (x : ℕ). 2 + length (fields (t .lines ∷ t .refused ∷ x ∷ []))) e
     ∙ (let n = length (fields (t .lines ∷ t .refused ∷ percentageOf (t .before) (t .after) ∷ [])) in let g : 2 + n ≡ suc (suc n) = omega arith in g)
 
-pub ruleset close-line = (after-small, first-inside, second-inside, behind-inside, closing-room, closing-put, closing-long, closing-count)
+pub ruleset close-line = (before-small, after-small, first-inside, second-inside, behind-inside, closing-room, closing-put, closing-long, closing-count)
