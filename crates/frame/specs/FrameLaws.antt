@@ -7,7 +7,7 @@ use native.Mathlib.Nat.{zero-add, suc-add}
 use native.Mathlib.Numerals.{one-add}
 use native.Mathlib.Omega.{arith}
 use lib.Dec.{leb, ltb, eqb}
-use lib.ListN.{length, take, drop, getD, length-append, length-take, length-drop, take-append-drop, List·getD-append}
+use lib.ListN.{length, take, drop, getD, length-append, length-drop, take-append-drop, List·getD-append}
 use lib.Seq.{take-at, drop-at, take-all, length-take-le, getD-append-add}
 use borrow.Author.Tests.{lt-ltb, le-ltb, le-leb, lt-leb, eq-eqb, ltb-true, ltb-false, leb-true, leb-false, eqb-true}
 use Rattle.arith.specs.Choice.{if_then_else_}
@@ -23,7 +23,7 @@ use Rattle.expr.specs.ParseLaws.{parse-sound, parse-encode}
 use Rattle.width.specs.Width.{supported}
 use Rattle.width.specs.WidthLaws.{supported-is}
 use Rattle.hex.specs.Hex.{digits, allDigits, numberOf}
-use Rattle.hex.specs.HexLaws.{both-true, all-append, all-take, all-drop, all-digits, length-digits, number-below, number-digits, digits-number}
+use Rattle.hex.specs.HexLaws.{both-true, all-append, all-take, all-drop, all-digits, length-digits, number-digits, digits-number}
 use Rattle.hex.specs.Nodes.{nodesText, wordsOf}
 use Rattle.hex.specs.NodesLaws.{NodeWords, next, length-nodes, length-words, all-nodes, words-nodes, nodes-words}
 use Rattle.hex.specs.NodesLaws as hex
@@ -105,19 +105,6 @@ line-is bs w ws e =
 pub line-read : (bs : List ℕ) → 1 ≤ nodesIn (length bs) → allDigits bs ≡ true → lineWords bs ≡ accepted (numberOf (take 2 bs), wordsOf (nodesIn (length bs)) (drop 2 bs))
 unfolding lineWords
 line-read bs h e = rw (lt-ltb 0 (nodesIn (length bs)) h, e)
-
-module _ (bs : List ℕ) (w : ℕ) (ws : List ℕ) (e : lineWords bs ≡ accepted (w, ws)) where
-  -- the words of a line are those of its nodes
-  pub line-count : length ws ≡ 2 * nodesIn (length bs)
-  line-count = let l = line-is bs w ws e in ap length (l .words-are) ∙ length-words (nodesIn (length bs)) (drop 2 bs)
-
-  -- and no more than those of the largest tree
-  pub line-few : length ws ≤ 1024
-  line-few = let l = line-is bs w ws e in omega (arith, line-count, bytes-of-nodes (length bs) (l .some))
-
-  -- two digits stand for a number of eight bits
-  pub line-width : w < 256
-  line-width = let l = line-is bs w ws e in rw (l .width-is) (number-below (take 2 bs) 2 (omega (arith, length-take 2 bs)))
 
 too-long : (bs : List ℕ) → 9218 < length bs → lineWords bs ≡ refused (refusal 14)
 unfolding lineWords nodesIn

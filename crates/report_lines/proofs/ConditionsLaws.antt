@@ -1,18 +1,18 @@
 -- The highest variable of a tree, by its words. Assumes nothing.
-use mathlib.Core.Path.{_≡_, refl, sym, ap, ap₂, subst, _∙_}
-use mathlib.Core.Bool.{Bool, true, false, _&&_}
+use mathlib.Core.Path.{_≡_, refl, sym, ap, ap₂, _∙_}
+use mathlib.Core.Bool.{Bool}
 use mathlib.Core.List.{List, [], _∷_, _++_, append-assoc, append-nil}
-use Prim.Native.Nat.{ℕ, zero, suc, _+_, _-_, _*_, _≤_, _<_, max}
+use Prim.Native.Nat.{ℕ, zero, suc, _+_, _-_, _≤_, _<_, max}
 use native.Mathlib.Nat.{not-suc-le-zero, le-of-suc-le-suc}
 use native.Mathlib.Omega.{arith}
 use mir.Syntax.{w64}
 use mir.Val.{Fits}
 use mir.Facts.{and-yes}
-use lib.Dec.{T, eqb, leb→le}
+use lib.Dec.{T, leb→le}
 use lib.ListN.{length, drop, getD}
 use borrow.Author.Tests.{ne-eqb, eq-eqb}
 use Rattle.arith.specs.Choice.{if_then_else_}
-use Rattle.expr.specs.Expr.{Leaf, Constant, Variable, Unary, Not, Neg, Shr, ZExt, SExt, Trunc, Binary, Add, Mul, And, Or, Xor, Concat, Expr, leaf, unary, binary, unaryNumber, unaryOperand, binaryNumber, encode}
+use Rattle.expr.specs.Expr.{Constant, Variable, Unary, Not, Neg, Shr, ZExt, SExt, Trunc, Binary, Add, Mul, And, Or, Xor, Concat, Expr, leaf, unary, binary, unaryNumber, unaryOperand, binaryNumber, encode}
 use Rattle.expr.specs.Parse.{operandOk, operandsOk}
 use Rattle.expr.specs.Front.{Exactly, Whole, treeAt}
 use Rattle.report_lines.specs.Report.{conditionsOf}

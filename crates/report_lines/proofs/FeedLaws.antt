@@ -1,26 +1,26 @@
 -- Chunks, and the end of the input. Assumes nothing.
 use mathlib.Core.Path.{_≡_, refl, sym, ap, ap₂, subst, _∙_}
 use mathlib.Core.Bool.{Bool, true, false, not, _&&_}
-use mathlib.Core.List.{List, [], _∷_, _++_, map, append-assoc}
-use Prim.Native.Nat.{ℕ, zero, suc, _+_, _-_, _*_, _≤_, _<_, _^_}
+use mathlib.Core.List.{List, [], _∷_, _++_, append-assoc}
+use Prim.Native.Nat.{ℕ, _+_, _-_, _≤_, _<_, _^_}
 use native.Mathlib.Omega.{arith}
 use mir.Syntax.{w64}
 use mir.Val.{Fits}
 use lib.Dec.{leb}
 use lib.ListN.{length, take, drop, length-append, length-drop, length-take}
-use lib.Seq.{take-at, drop-drop, drop-length, length-take-le}
+use lib.Seq.{take-at, drop-drop, length-take-le}
 use borrow.Author.Tests.{leb-true, not-true, not-false}
 use borrow.Rule.Slice.PartMut.{putMid}
 use Rattle.expr.specs.Parts.{tail, part}
 use Rattle.expr.specs.TailLaws.{tail-drop, length-tail}
-use Rattle.expr.specs.Lent.{over, Laid}
+use Rattle.expr.specs.Lent.{Laid}
 use Rattle.expr.specs.LentLaws.{laid-length, laid-on}
 use Rattle.hex.specs.HexLaws.{both-true}
 use Rattle.lines.specs.Lines.{lastLine, linesFrom}
 use Rattle.report_lines.specs.declared.Totals.{Totals}
 use Rattle.report_lines.specs.declared.State.{State}
 use Rattle.report_lines.specs.declared.Step.{Step}
-use Rattle.report_lines.specs.Report.{outcomeOf, textOf, textsOf, noTotals, plus, totalsOf, sums, closing}
+use Rattle.report_lines.specs.Report.{outcomeOf, textOf, plus, totalsOf, closing}
 use Rattle.report_lines.specs.Steps.{restOf, soundTotals, soundRoom, ready, Lent, Advances, FeedsIf, Feeds, FinishesIf, Finishes}
 use Rattle.report_lines.specs.ReportLaws.{rest-none, rest-full}
 use Rattle.report_lines.specs.Contracts.{Printed, Turnable, Turned, FeedsOn, FedOn, Fed, lastText, Finished}

@@ -1,12 +1,11 @@
 -- One line's text and the sums with it. Assumes nothing.
 use mathlib.Core.Path.{_≡_, refl, sym, ap, ap₂, subst, _∙_}
 use mathlib.Core.Bool.{Bool, true, false, _&&_}
-use mathlib.Core.List.{List, [], _∷_, _++_, append-assoc, append-nil}
-use Prim.Native.Nat.{ℕ, suc, _+_, _-_, _*_, _/_, _%_, _^_, _≤_, _<_, min}
+use mathlib.Core.List.{List, [], _∷_, _++_, append-nil}
+use Prim.Native.Nat.{ℕ, _+_, _-_, _*_, _/_, _%_, _^_, _≤_, _<_, min}
 use native.Mathlib.Omega.{arith}
 use mir.Syntax.{w64}
 use mir.Val.{Fits}
-use lib.Dec.{eqb}
 use lib.ListN.{length, take, drop, set, length-append, length-take}
 use borrow.Author.Tests.{eq-eqb, ne-eqb}
 use borrow.Rule.Slice.PartMut.{putMid}
@@ -17,7 +16,7 @@ use Rattle.expr.specs.Refusals.{refusal, reasonOf}
 use Rattle.expr.specs.Outcome.{Outcome, refused, accepted, _andThen_}
 use Rattle.expr.specs.Expr.{nodes}
 use Rattle.expr.specs.Parts.{tail, part}
-use Rattle.expr.specs.Front.{Exactly, Whole, treeAt}
+use Rattle.expr.specs.Front.{Whole, treeAt}
 use Rattle.expr.specs.PartLaws.{exact-length}
 use Rattle.expr.specs.Lent.{over, Laid}
 use Rattle.expr.specs.LentLaws.{laid-on}
@@ -33,7 +32,7 @@ use Rattle.frame.specs.Contracts.{Decodes}
 use Rattle.frame.proofs.ReadLaws.{none-decoded, width-there, count-fits, width-fits, bad-digit, decoded}
 use Rattle.frame.proofs.PutLaws.{frame-long, frame-laid}
 use Rattle.report_lines.specs.declared.Totals.{Totals}
-use Rattle.report_lines.specs.Report.{Done, chained, outcomeOf, fields, rowOf, textOf, plus, totalsOf}
+use Rattle.report_lines.specs.Report.{Done, chained, outcomeOf, fields, rowOf, textOf}
 use Rattle.report_lines.specs.Steps.{soundTotals}
 use Rattle.report_lines.specs.Contracts.{highest, doneBy, LineRead, Reaches, Ran, Printed}
 use Rattle.report_lines.proofs.ReadyLaws.{sound-open}

@@ -1,13 +1,13 @@
 -- The chain of a line, with short work first. Assumes nothing.
 use mathlib.Core.Path.{_≡_, refl, sym, ap, ap₂, subst, _∙_}
 use mathlib.Core.Bool.{Bool, true, false}
-use mathlib.Core.List.{List, [], _∷_, _++_, append-assoc}
-use Prim.Native.Nat.{ℕ, _+_, _-_, _*_, _≤_, _<_}
+use mathlib.Core.List.{List, [], _++_, append-assoc}
+use Prim.Native.Nat.{ℕ, _+_, _-_, _*_, _≤_}
 use native.Mathlib.Omega.{arith}
 use lib.Dec.{ltb}
 use lib.ListN.{length, take, drop, replicate, length-append, length-take, length-drop}
 use lib.Seq.{take-at}
-use borrow.Author.Tests.{le-ltb, ltb-true, ltb-false}
+use borrow.Author.Tests.{le-ltb, ltb-false}
 use borrow.Rule.Slice.PartMut.{putMid}
 use Rattle.arith.specs.Choice.{if_then_else_}
 use Rattle.expr.specs.declared.refusal.Reason.{Reason}
@@ -19,10 +19,10 @@ use Rattle.expr.specs.ExprLaws.{length-encode}
 use Rattle.expr.specs.ParseLaws.{parse-sound}
 use Rattle.expr.specs.Parse.{Accepts}
 use Rattle.expr.specs.Parts.{part}
-use Rattle.expr.specs.Front.{Exactly, Whole, treeAt}
+use Rattle.expr.specs.Front.{Exactly, treeAt}
 use Rattle.expr.specs.PartLaws.{exact-tree, exact-whole}
 use Rattle.value.specs.Value.{oneWidth}
-use Rattle.value.specs.ValueLaws.{OneWidth, one-width-sound}
+use Rattle.value.specs.ValueLaws.{one-width-sound}
 use Rattle.rewriting.specs.Measures.{D}
 use Rattle.rewriting.specs.Chain.{lastOf, treesOf}
 use Rattle.rewriting.specs.ChainLaws.{listed-is}

@@ -1,15 +1,14 @@
 -- A step: what is left to be printed before and after it. Assumes nothing.
 use mathlib.Core.Path.{_≡_, refl, sym, ap, ap₂, subst, _∙_}
-use mathlib.Core.Bool.{Bool, true, false}
+use mathlib.Core.Bool.{true, false}
 use mathlib.Core.List.{List, [], _∷_, _++_, map, append-assoc, append-nil}
-use Prim.Native.Nat.{ℕ, zero, suc, _+_, _-_, _*_, _≤_, _<_}
+use Prim.Native.Nat.{ℕ, suc, _+_, _-_, _≤_, _<_}
 use native.Mathlib.Omega.{arith}
 use lib.ListN.{length, take, drop, length-append, length-take, length-drop}
-use lib.Seq.{take-at, drop-length, length-take-le}
+use lib.Seq.{take-at, drop-length}
 use Rattle.expr.specs.declared.refusal.Reason.{Reason}
 use Rattle.expr.specs.Outcome.{Outcome, refused, accepted, mapped, _andThen_}
 use Rattle.expr.specs.Expr.{Expr, nodes}
-use Rattle.expr.specs.Parse.{Accepts}
 use Rattle.expr.specs.ParseLaws.{parse-sound}
 use Rattle.expr.specs.Parts.{part}
 use Rattle.expr.specs.Lent.{over, Laid}
@@ -21,12 +20,12 @@ use Rattle.frame.specs.Frame.{frame, lineWords}
 use Rattle.frame.specs.FrameLaws.{length-frame, line-clip}
 use Rattle.lines.specs.declared.Taken.{Taken}
 use Rattle.lines.specs.Lines.{linesFrom, upTo, hasEnd, usedOf, kept}
-use Rattle.lines.specs.LinesLaws.{front-is, ended-used, ended-fits, going-all, going-used, inside-ended, lines-ended, lines-going, clip-first}
+use Rattle.lines.specs.LinesLaws.{front-is, ended-used, ended-fits, going-used, inside-ended, lines-ended, lines-going, clip-first}
 use Rattle.report_lines.specs.declared.Totals.{Totals}
 use Rattle.report_lines.specs.declared.State.{State}
 use Rattle.report_lines.specs.declared.Step.{Step}
 use Rattle.report_lines.specs.Report.{Done, done, chained, outcomeOf, fields, rowOf, textOf, textsOf, refusedLines, nodesBefore, nodesAfter, plus, totalsOf, sums, closing}
-use Rattle.report_lines.specs.Steps.{outcomesLeft, restOf, soundTotals, soundRoom, Advances}
+use Rattle.report_lines.specs.Steps.{outcomesLeft, restOf, soundTotals}
 use Rattle.report_lines.specs.ReportLaws.{plus-plus}
 use Rattle.report_lines.specs.Contracts.{PrintedStep, Turnable, Turned}
 use Rattle.report_lines.proofs.ReadyLaws.{sound-open, sound-shut, places-open}

@@ -8,8 +8,8 @@ use native.Mathlib.Omega.{arith}
 use lib.Dec.{ltb}
 use mir.Syntax.{w64}
 use mir.Val.{Fits}
-use lib.ListN.{length, take, drop, getD, set, length-append, length-drop, length-set, drop-of-length-le}
-use lib.Seq.{drop-cons, set-at, drop-length}
+use lib.ListN.{length, drop, getD, set, length-append, length-set, drop-of-length-le}
+use lib.Seq.{drop-cons, set-at}
 use borrow.Author.Tests.{ltb-true, ltb-false, lt-ltb, le-ltb, ne-eqb}
 use borrow.Rule.Slice.PartMut.{putMid}
 use Rattle.arith.specs.Choice.{if_then_else_}

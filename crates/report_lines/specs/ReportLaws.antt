@@ -1,14 +1,14 @@
 -- The report does not depend on how its input is split into chunks. Assumes nothing.
 use mathlib.Core.Path.{_≡_, refl, sym, ap, ap₂, _∙_}
-use mathlib.Core.List.{List, [], _∷_, _++_, map, append-assoc}
-use Prim.Native.Nat.{ℕ, zero, suc, _+_, _-_, _*_}
+use mathlib.Core.List.{List, [], _++_, map, append-assoc}
+use Prim.Native.Nat.{ℕ, zero, suc, _+_, _-_}
 use native.Mathlib.Omega.{arith}
-use lib.ListN.{take, drop}
+use lib.ListN.{take}
 use Rattle.lines.specs.Lines.{lastLine, linesFrom}
 use Rattle.report_lines.specs.declared.Totals.{Totals}
 use Rattle.report_lines.specs.declared.State.{State}
 use Rattle.report_lines.specs.Report.{outcomeOf, outcomes, textsOf, noTotals, plus, sums, closing, reportOf}
-use Rattle.report_lines.specs.Steps.{restOf, Advances, joined, Stepped, start}
+use Rattle.report_lines.specs.Steps.{restOf, joined, Stepped, start}
 
 -- ---- the sums
 
