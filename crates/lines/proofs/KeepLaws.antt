@@ -1,18 +1,70 @@
--- The turns of `end_of` and `keep`, and their answers. Assumes nothing.
+-- The turns of `any_end`, `end_of` and `keep`, and their answers. Assumes nothing.
 use mathlib.Core.Path.{_≡_, refl, sym, ap, ap₂, _∙_}
-use mathlib.Core.Bool.{true, false}
+use mathlib.Core.Bool.{Bool, true, false, _||_}
 use mathlib.Core.List.{List, [], _∷_, _++_}
 use Prim.Native.Nat.{ℕ, zero, suc, _+_, _-_, _≤_, _<_, min}
 use native.Mathlib.Numerals.{add-one}
 use native.Mathlib.Omega.{arith}
-use lib.ListN.{length, take, drop, getD, set, length-take, length-set, drop-of-length-le}
-use lib.Seq.{drop-cons, paste, paste-zero, paste-suc, length-paste-head, take-take, take-append-add}
+use lib.Dec.{eqb}
+use lib.ListN.{length, take, drop, getD, set, length-take, length-drop, length-set, take-append-drop, drop-of-length-le}
+use lib.Seq.{take-suc, take-all, length-take-le, drop-drop, drop-cons, paste, paste-zero, paste-suc, length-paste-head, take-take, take-append-add}
 use borrow.Author.Tests.{eq-eqb, ne-eqb}
+use Rattle.arith.specs.Choice.{if_then_else_}
+use Rattle.expr.specs.Parts.{part}
 use Rattle.expr.specs.Lent.{over}
 use Rattle.lines.specs.Lines.{upTo, hasEnd, usedOf, kept}
 use Rattle.lines.specs.LinesLaws.{front-is, ended-used, inside-ended, all-going, going-all, going-used}
 
+-- ---- `any_end`
+
+end-last : (bs : List ℕ) (b : ℕ) → hasEnd (bs ++ (b ∷ [])) ≡ (hasEnd bs || eqb b 10)
+unfolding hasEnd
+end-last [] b = go (eqb b 10)
+  where
+    go : (t : Bool) → (if t then true else false) ≡ t
+    go true = refl
+    go false = refl
+end-last (c ∷ bs) b = go (eqb c 10) (end-last bs b)
+  where
+    go : (t : Bool) → hasEnd (bs ++ (b ∷ [])) ≡ (hasEnd bs || eqb b 10) → (if t then true else hasEnd (bs ++ (b ∷ []))) ≡ ((if t then true else hasEnd bs) || eqb b 10)
+    go true e = refl
+    go false e = e
+
+-- after k turns it is known of the first k bytes
+pub record Scanned (block : List ℕ) (any : Bool) (k : ℕ) : Type 0 where
+  pub is : any ≡ hasEnd (take k block)
+  pub turn : k ≤ length block
+
+pub none-scanned : (block : List ℕ) → Scanned block false 0
+unfolding hasEnd
+none-scanned block = record { is = refl; turn = omega arith }
+
+module _ (block : List ℕ) (any : Bool) (k : ℕ) (g : Scanned block any k) where
+  pub one-scanned : k < length block → Scanned block (any || eqb (getD block k 0) 10) (k + 1)
+  one-scanned l =
+      let e : take (k + 1) block ≡ take k block ++ (getD block k 0 ∷ []) = ap (λ (j : ℕ). take j block) (add-one k) ∙ take-suc block k 0 l in
+      record {
+        is = ap (λ (t : Bool). t || eqb (getD block k 0) 10) (g .is) ∙ sym (end-last (take k block) (getD block k 0)) ∙ ap hasEnd (sym e);
+        turn = omega arith;
+      }
+
+  pub all-scanned : length block ≤ k → any ≡ hasEnd block
+  all-scanned l = g .is ∙ ap hasEnd (take-all k block l)
+
+pub ruleset scanning = (none-scanned, one-scanned, all-scanned)
+
 -- ---- `end_of`
+
+-- bytes without a 0a stand before the first one of the whole
+front-past : (bs cs : List ℕ) → hasEnd bs ≡ false → length (upTo (bs ++ cs)) ≡ length bs + length (upTo cs)
+unfolding hasEnd upTo
+front-past [] cs h = omega arith
+front-past (b ∷ bs) cs h = go (eqb b 10) h (front-past bs cs)
+  where
+    go : (t : Bool) → (if t then true else hasEnd bs) ≡ false → (hasEnd bs ≡ false → length (upTo (bs ++ cs)) ≡ length bs + length (upTo cs))
+        → length (if t then [] else b ∷ upTo (bs ++ cs)) ≡ suc (length bs) + length (upTo cs)
+    go true e f = absurd (let z : _≡_ {A = ℕ} 0 1 = cc in omega arith)
+    go false e f = omega (arith, f e)
 
 -- no 0a is among the first `at` bytes
 pub record Looking (chunk : List ℕ) (at : ℕ) : Type 0 where
@@ -29,6 +81,16 @@ module _ (chunk : List ℕ) (at : ℕ) (g : Looking chunk at) where
       let s : length (upTo (drop at chunk)) ≡ suc (length (upTo (drop (at + 1) chunk))) = rw (add-one, drop-cons chunk at 0 l, ne-eqb (getD chunk at 0) 10 e) in
       record { is = omega (arith, s, g .is); inside = omega arith }
 
+  pub looking-past : 16 ≤ length chunk - at → (any : Bool) → any ≡ hasEnd (part at (at + 16) chunk) → any ≡ false → Looking chunk (at + 16)
+  looking-past l any e f =
+      let n : at + 16 - at ≡ 16 = omega arith in
+      let block : List ℕ = take 16 (drop at chunk) in
+      let b : hasEnd block ≡ false = ap (λ (k : ℕ). hasEnd (take k (drop at chunk))) (sym n) ∙ sym e ∙ f in
+      let d : block ++ drop (at + 16) chunk ≡ drop at chunk = ap (λ (w : List ℕ). block ++ w) (sym (drop-drop 16 at chunk)) ∙ take-append-drop 16 (drop at chunk) in
+      let s : length (upTo (drop at chunk)) ≡ length block + length (upTo (drop (at + 16) chunk)) = ap (λ (w : List ℕ). length (upTo w)) (sym d) ∙ front-past block (drop (at + 16) chunk) b in
+      let m : length block ≡ 16 = length-take-le 16 (drop at chunk) (omega (arith, length-drop at chunk)) in
+      record { is = omega (arith, s, m, g .is); inside = omega arith }
+
   pub end-found : at < length chunk → getD chunk at 0 ≡ 10 → at ≡ length (upTo chunk)
   unfolding upTo
   end-found l e =
@@ -41,7 +103,7 @@ module _ (chunk : List ℕ) (at : ℕ) (g : Looking chunk at) where
       let s : length (upTo (drop at chunk)) ≡ 0 = rw (drop-of-length-le chunk l) in
       omega (arith, s, g .is)
 
-pub ruleset looking = (looking-first, looking-on, end-found, no-end)
+pub ruleset looking = (looking-first, looking-past, looking-on, end-found, no-end)
 
 -- ---- `keep`: the copy
 

@@ -1,4 +1,4 @@
--- `lines::end_of` meets its contract. The measure is what is left of the chunk. Assumes nothing.
+-- `lines::end_of` meets its contract. The measure of each loop is what is left of the chunk. Assumes nothing.
 use Prim.Native.Nat.{_-_}
 use lib.ListN.{length}
 use borrow.Author.Needs.{needs}
@@ -12,6 +12,12 @@ Inv-loop chunk at₀ at = Looking chunk at
 abbrev μ-loop : tie.MeasureT-loop
 μ-loop chunk at₀ at = length chunk - at
 
+abbrev Inv-loop2 : tie.InvT-loop2
+Inv-loop2 chunk at₀ at = Looking chunk at
+
+abbrev μ-loop2 : tie.MeasureT-loop2
+μ-loop2 chunk at₀ at = length chunk - at
+
 ruleset rules = (needs, looking)
 
 pub end-of-spec : {M : Type 1} → statement M
@@ -20,6 +26,18 @@ end-of-spec =
     (tie.spec
     Inv-loop
     μ-loop
+    Inv-loop2
+    μ-loop2
+    (λ c. search rules)
+    (λ c. search rules)
+    (λ c. search rules)
+    (λ c. search rules)
+    (λ c. search rules)
+    (λ c. search rules)
+    (λ c κs. search rules)
+    (λ c. search rules)
+    (λ c. search rules)
+    (λ c. search rules)
     (λ c. search rules)
     (λ c. search rules)
     (λ c. search rules)
