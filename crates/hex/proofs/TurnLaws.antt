@@ -1,27 +1,24 @@
 -- Nodes that are read and written one after the other. Assumes nothing.
 use mathlib.Core.Path.{_≡_, refl, sym, ap, ap₂, subst, _∙_}
 use mathlib.Core.Bool.{Bool, true, _&&_}
-use mathlib.Core.List.{List, [], _∷_, _++_, append-nil}
-use Prim.Native.Nat.{ℕ, suc, _+_, _-_, _*_, _/_, _%_, _^_, _≤_, _<_, min}
+use mathlib.Core.List.{List, [], _∷_, _++_}
+use Prim.Native.Nat.{ℕ, suc, _+_, _-_, _*_, _/_, _≤_, _<_, min}
 use native.Mathlib.Omega.{arith}
-use lib.ListN.{length, take, drop, getD, set, length-drop}
+use lib.ListN.{length, take, drop, set, length-drop}
 use lib.Seq.{take-add, length-take-le}
 use borrow.Rule.Slice.PartMut.{putMid}
 use Rattle.expr.specs.Parts.{tail, part}
 use Rattle.expr.specs.TailLaws.{tail-drop, length-tail}
 use Rattle.expr.specs.Lent.{over, Laid}
 use Rattle.expr.specs.LentLaws.{laid-length, laid-on}
-use Rattle.hex.specs.Hex.{digits, allDigits, numberOf}
-use Rattle.hex.specs.HexLaws.{all-append, number-whole, length-digits}
+use Rattle.hex.specs.Hex.{allDigits}
+use Rattle.hex.specs.HexLaws.{all-append, number-whole}
 use Rattle.hex.specs.Nodes.{nodesText, wordsOf}
 use Rattle.hex.specs.NodesLaws.{length-nodes, length-words, nodes-last, words-last}
 use Rattle.hex.specs.declared.Parsed.{Parsed}
+use Rattle.hex.proofs.OperandLaws.{parsed}
 
 -- ---- `read_node`
-
--- what `number` says of a part
-abbrev parsed : List ℕ → Parsed
-parsed bs = record { value = numberOf bs % 2 ^ 64; good = allDigits bs }
 
 module _ (s : List ℕ) (kind operand : Parsed) (e : kind ≡ parsed (part 0 2 s)) (f : operand ≡ parsed (part 2 18 s)) where
   pub node-good : (kind .good && operand .good) ≡ allDigits (take 18 s)
@@ -94,23 +91,6 @@ module _ (s before : List ℕ) (count : ℕ) (after : List ℕ) (good : Bool) (i
   filled-long = f .long
 
 pub ruleset filling = (none-filled, all-good, all-filled, bytes-there, words-there, one-filled, filled-long)
-
--- ---- `put_node`
-
-digits-laid : (k n : ℕ) (before after : List ℕ) → k ≤ length before → after ≡ over (digits (min k (length before)) n) before → Laid before after (digits k n)
-digits-laid k n before after h e = record { is = e ∙ ap (λ (j : ℕ). over (digits j n) before) (let m : min k (length before) ≡ k = omega arith in m) }
-
-pub node-put : (words before first rest : List ℕ) → 18 ≤ length before
-    → first ≡ over (digits (min 2 (length before)) (getD words 0 0)) before
-    → rest ≡ over (digits (min 16 (length (tail 2 first))) (getD words 1 0)) (tail 2 first)
-    → Laid before (putMid 2 (length first - 2) first rest) (nodesText 1 words)
-unfolding nodesText
-node-put words before first rest h e f =
-    let k = digits-laid 2 (getD words 0 0) before first (omega arith) e in
-    let n : length first ≡ length before = laid-length before first (digits 2 (getD words 0 0)) k (omega (arith, length-digits 2 (getD words 0 0))) in
-    let o = digits-laid 16 (getD words 1 0) (tail 2 first) rest (omega (arith, length-tail 2 first)) f in
-    subst (λ (l : List ℕ). Laid before (putMid 2 (length first - 2) first rest) (digits 2 (getD words 0 0) ++ l)) (sym (append-nil (digits 16 (getD words 1 0))))
-    (laid-on before first (digits 2 (getD words 0 0)) k 2 (sym (length-digits 2 (getD words 0 0))) rest (digits 16 (getD words 1 0)) o)
 
 -- ---- `put_nodes`
 

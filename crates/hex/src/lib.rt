@@ -4,7 +4,7 @@ ghost use mathlib.Core.Path.{_≡_};
 ghost use Prim.Native.Nat.{min, _*_, _/_, _%_, _^_, _<_, _≤_};
 ghost use lib.ListN.{length, take};
 ghost use Rattle.expr.specs.Lent.{over, Laid};
-ghost use Rattle.hex.specs.Hex.{glyphOf, digitOf, digits, allDigits, numberOf, places};
+ghost use Rattle.hex.specs.Hex.{glyphOf, digitOf, digits, allDigits, allZeros, numberOf, places};
 ghost use Rattle.hex.specs.Nodes.{nodesText, wordsOf};
 
 // What bytes stand for, and whether each of them is a digit.
@@ -95,6 +95,45 @@ pub fn put_number(n: u64, out: &mut [u8]) -> usize
     count
 }
 
+// Whether every byte is the digit 0. It looks at all of them, so that the compiler does so in one step where their count is fixed.
+fn is_zeros(s: &[u8]) -> bool
+    ensures { λ r. ⌜ r ≡ allZeros (now (s .entry)) ⌝ }
+{
+    let mut zeros = true;
+    let mut i = 0;
+    while i < s.len() {
+        zeros = zeros & (s[i] == b'0');
+        i += 1;
+    }
+    zeros
+}
+
+// As `number`. Most operands are small, so most halves are zeros: these are read without a look at each digit's value.
+fn half(s: &[u8]) -> Parsed
+    ensures { λ r. ⌜ r ≡ record { value = numberOf (now (s .entry)) % 2 ^ 64; good = allDigits (now (s .entry)) } ⌝ }
+{
+    if is_zeros(s) {
+        return Parsed {
+            value: 0,
+            good: true,
+        };
+    }
+    number(s)
+}
+
+// As `number`, of 16 bytes.
+fn operand(s: &[u8]) -> Parsed
+    requires { ⌜ length (now s) ≡ 16 ⌝ }
+    ensures { λ r. ⌜ r ≡ record { value = numberOf (now (s .entry)) % 2 ^ 64; good = allDigits (now (s .entry)) } ⌝ }
+{
+    let high = half(&s[0..8]);
+    let low = half(&s[8..16]);
+    Parsed {
+        value: high.value * 0x1_0000_0000 + low.value,
+        good: high.good & low.good,
+    }
+}
+
 // Puts the words of the one node whose digits `s` begins with at the front of `out`; whether each byte of it is a digit.
 fn read_node(s: &[u8], out: &mut [u64]) -> bool
     requires { ⌜ (18 ≤ length (now s)) × (2 ≤ length (now out)) ⌝ }
@@ -102,7 +141,7 @@ fn read_node(s: &[u8], out: &mut [u64]) -> bool
     ensures { λ r. ⌜ Laid (now (out .entry)) (now (out .exit)) (wordsOf 1 (now (s .entry))) ⌝ }
 {
     let kind = number(&s[0..2]);
-    let operand = number(&s[2..18]);
+    let operand = operand(&s[2..18]);
     out[0] = kind.value;
     out[1] = operand.value;
     kind.good & operand.good
@@ -127,13 +166,37 @@ pub fn read_nodes(s: &[u8], out: &mut [u64]) -> bool
     good
 }
 
+// Fills `out` with the digit 0.
+fn put_zeros(out: &mut [u8])
+    ensures { λ r. ⌜ now (out .exit) ≡ digits (length (now (out .entry))) 0 ⌝ }
+{
+    let mut i = 0;
+    while i < out.len() {
+        out[i] = b'0';
+        i += 1;
+    }
+}
+
+// Fills the 8 places of `out` with the last 8 digits of n. Most operands are small, so most halves are 0: these are written without working out each digit.
+fn put_half(n: u64, out: &mut [u8])
+    requires { ⌜ length (now out) ≡ 8 ⌝ }
+    ensures { λ r. ⌜ now (out .exit) ≡ digits 8 n ⌝ }
+{
+    if n == 0 {
+        put_zeros(out);
+    } else {
+        put_digits(n, 8, out);
+    }
+}
+
 // Puts the digits of the one node that `words` begins with at the front of `out`.
 fn put_node(words: &[u64], out: &mut [u8])
     requires { ⌜ (2 ≤ length (now words)) × (18 ≤ length (now out)) ⌝ }
     ensures { λ r. ⌜ Laid (now (out .entry)) (now (out .exit)) (nodesText 1 (now (words .entry))) ⌝ }
 {
     put_digits(words[0], 2, out);
-    put_digits(words[1], 16, &mut out[2..]);
+    put_half(words[1] / 0x1_0000_0000, &mut out[2..10]);
+    put_half(words[1] % 0x1_0000_0000, &mut out[10..18]);
 }
 
 // Puts the digits of nodes at the front of `out`, as many whole nodes as there are words for and `out` has room for. Of a kind its last two digits
