@@ -11,6 +11,7 @@ use lib.ListN.{length, take, drop, getD, length-append, length-drop, take-append
 use lib.Seq.{take-at, drop-at, take-all, length-take-le, getD-append-add}
 use borrow.Author.Tests.{lt-ltb, le-ltb, le-leb, lt-leb, eq-eqb, ltb-true, ltb-false, leb-true, leb-false, eqb-true}
 use Rattle.arith.specs.Choice.{if_then_else_}
+use Rattle.arith.specs.ChoiceLaws.{both-true}
 use Rattle.expr.specs.declared.refusal.Reason.{Reason}
 use Rattle.expr.specs.Refusals.{refusal}
 use Rattle.expr.specs.Outcome.{Outcome, refused, accepted, _andThen_}
@@ -23,7 +24,7 @@ use Rattle.expr.specs.ParseLaws.{parse-sound, parse-encode}
 use Rattle.width.specs.Width.{supported}
 use Rattle.width.specs.WidthLaws.{supported-is}
 use Rattle.hex.specs.Hex.{digits, allDigits, numberOf}
-use Rattle.hex.specs.HexLaws.{both-true, all-append, all-take, all-drop, all-digits, length-digits, number-digits, digits-number}
+use Rattle.hex.specs.HexLaws.{all-append, all-take, all-drop, all-digits, length-digits, number-digits, digits-number}
 use Rattle.hex.specs.Nodes.{nodesText, wordsOf}
 use Rattle.hex.specs.NodesLaws.{NodeWords, next, length-nodes, length-words, all-nodes, words-nodes, nodes-words}
 use Rattle.hex.specs.NodesLaws as hex

@@ -12,8 +12,10 @@ use borrow.Author.Tests.{eqb-true}
 use borrow.Rule.Slice.PartMut.{putMid}
 use Rattle.expr.specs.Parts.{part}
 use Rattle.expr.specs.Lent.{over, Laid}
-use Rattle.hex.specs.Hex.{glyphOf, digitOf, digits, allDigits, allZeros, numberFrom, numberOf}
-use Rattle.hex.specs.HexLaws.{both-true, all-append, number-below, number-whole, length-digits}
+use Rattle.arith.specs.ChoiceLaws.{both-true}
+use Rattle.hex.specs.Hex.{glyphOf, digitOf, digits, allDigits, numberFrom, numberOf}
+use Rattle.hex.specs.Contracts.{allZeros}
+use Rattle.hex.specs.HexLaws.{all-append, number-below, number-whole, length-digits}
 use Rattle.hex.specs.Nodes.{nodesText}
 use Rattle.hex.specs.declared.Parsed.{Parsed}
 

@@ -2,7 +2,7 @@
 use mathlib.Core.Bool.{Bool, true, _&&_}
 use mathlib.Core.List.{List, [], _∷_, _++_}
 use Prim.Native.Nat.{ℕ, zero, suc, _+_, _-_, _*_, _/_, _%_}
-use lib.Dec.{eqb, ltb}
+use lib.Dec.{ltb}
 use Rattle.arith.specs.Choice.{if_then_else_}
 
 -- the byte of a digit below 16: in hexadecimal 30 to 39 for 0 to 9, 61 to 66 for a to f
@@ -27,11 +27,6 @@ digits (suc k) n = digits k (n / 16) ++ (glyphOf (n % 16) ∷ [])
 unfoldable pub allDigits : List ℕ → Bool
 allDigits [] = true
 allDigits (b ∷ bs) = ltb (digitOf b) 16 && allDigits bs
-
--- every byte is the digit 0
-unfoldable pub allZeros : List ℕ → Bool
-allZeros [] = true
-allZeros (b ∷ bs) = eqb b 48 && allZeros bs
 
 -- the number that digits stand for behind those of n, the highest first; a byte that stands for none counts as 0
 unfoldable pub numberFrom : ℕ → List ℕ → ℕ

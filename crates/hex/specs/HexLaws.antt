@@ -9,6 +9,7 @@ use lib.Dec.{ltb}
 use lib.ListN.{length, length-append, take, drop, take-append-drop}
 use borrow.Author.Tests.{lt-ltb, le-ltb, ltb-true, ltb-false}
 use Rattle.arith.specs.Choice.{if_then_else_}
+use Rattle.arith.specs.ChoiceLaws.{both-true}
 use Rattle.hex.specs.Hex.{glyphOf, digitOf, digits, allDigits, numberFrom, numberOf, placesFrom}
 
 -- ---- one digit
@@ -56,10 +57,6 @@ glyph-digit b =
     (λ p h. absurd (omega arith))
 
 -- ---- all bytes are digits
-
-pub both-true : (a b : Bool) → (a && b) ≡ true → (a ≡ true) × (b ≡ true)
-both-true true b e = (refl, e)
-both-true false b e = absurd (let z : _≡_ {A = ℕ} 0 1 = cc in omega arith)
 
 pub all-append : (bs cs : List ℕ) → allDigits (bs ++ cs) ≡ (allDigits bs && allDigits cs)
 unfolding allDigits

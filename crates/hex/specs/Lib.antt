@@ -1,4 +1,5 @@
 pub mod Hex
 pub mod Nodes
+pub mod Contracts
 pub mod HexLaws
 pub mod NodesLaws

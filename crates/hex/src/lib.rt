@@ -4,7 +4,8 @@ ghost use mathlib.Core.Path.{_≡_};
 ghost use Prim.Native.Nat.{min, _*_, _/_, _%_, _^_, _<_, _≤_};
 ghost use lib.ListN.{length, take};
 ghost use Rattle.expr.specs.Lent.{over, Laid};
-ghost use Rattle.hex.specs.Hex.{glyphOf, digitOf, digits, allDigits, allZeros, numberOf, places};
+ghost use Rattle.hex.specs.Hex.{glyphOf, digitOf, digits, allDigits, numberOf, places};
+ghost use Rattle.hex.specs.Contracts.{allZeros};
 ghost use Rattle.hex.specs.Nodes.{nodesText, wordsOf};
 
 // What bytes stand for, and whether each of them is a digit.
@@ -177,7 +178,8 @@ fn put_zeros(out: &mut [u8])
     }
 }
 
-// Fills the 8 places of `out` with the last 8 digits of n. Most operands are small, so most halves are 0: these are written without working out each digit.
+// Fills the 8 places of `out` with the last 8 digits of n. Most operands are small, so most halves are 0: these are written without working out
+// each digit.
 fn put_half(n: u64, out: &mut [u8])
     requires { ⌜ length (now out) ≡ 8 ⌝ }
     ensures { λ r. ⌜ now (out .exit) ≡ digits 8 n ⌝ }

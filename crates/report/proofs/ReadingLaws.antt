@@ -1,27 +1,23 @@
 -- Steps through a chunk, and chunks one after the other. Assumes nothing.
 use mathlib.Core.Path.{_≡_, refl, sym, ap, _∙_, subst}
-use mathlib.Core.Bool.{Bool, true, false, not, _&&_}
+use mathlib.Core.Bool.{Bool, true, false, not}
 use mathlib.Core.List.{List, [], _++_, append-assoc}
 use Prim.Native.Nat.{ℕ, _+_, _-_, _≤_, _<_, _^_}
 use native.Mathlib.Omega.{arith}
-use lib.Dec.{leb}
-use lib.ListN.{length, take, drop, length-append, length-drop}
-use lib.Seq.{drop-drop, drop-length}
+use lib.ListN.{length, take, drop, length-append}
+use lib.Seq.{drop-length}
 use mir.Syntax.{w64}
 use mir.Val.{Fits}
-use borrow.Author.Tests.{le-leb, leb-true, not-false}
+use borrow.Author.Tests.{le-leb, not-false}
 use Rattle.expr.specs.Parts.{part, tail}
 use Rattle.expr.specs.TailLaws.{tail-drop, length-tail}
 use Rattle.report_lines.specs.Steps.{Lent, soundTotals, soundRoom, ready, isReady, restOf, Advances, FeedsIf, Feeds, FinishesIf, Finishes, start}
+use Rattle.report_lines.specs.StepsLaws.{ready-open, no-step, step-on}
 use Rattle.report_lines.specs.declared.State.{State}
 use Rattle.report_lines.specs.declared.Step.{Step}
 use Rattle.report.specs.Reading.{Ready, ReadsFront, ReadsChunk, ReadsSome}
 
 -- ---- a step from a state that is ready
-
-both : (a b : Bool) → a && b ≡ true → (a ≡ true) × (b ≡ true)
-both true b e = (refl, e)
-both false b e = absurd (let z : _≡_ {A = ℕ} 0 1 = cc in omega arith)
 
 when-ready : (s : State) (chunk : List ℕ) (before : Lent) (r : Step) (after : Lent) → isReady s before ≡ true → Feeds s chunk before r after → FeedsIf true s chunk before r after
 when-ready s chunk before r after e f = subst (λ (b : Bool). FeedsIf b s chunk before r after) e (f .is)
@@ -35,35 +31,12 @@ ready-on : {s s' : State} {line line' chunk text : List ℕ} {used : ℕ} (words
     → Ready s' line' words' work' out'
 unfolding ready
 ready-on {s} {s'} {line} {line'} words words' work work' out out' h a e f g =
-    let room : soundRoom (length line) (length words) (length work) (length out) ≡ true =
-    both (leb (s .have) (length line)) _ (both (soundTotals (s .totals)) _ (h .is) .1) .1
-    in
+    let room = ready-open s (length line) (length words) (length work) (length out) (h .is) .room in
     record { is = rw (a .sound, le-leb (s' .have) (length line') (a .have-most), a .line-length, e, f, g) room }
 
--- ---- steps one after the other
-
-no-step : (s : State) (line words work out chunk : List ℕ) → Ready s line words work out → Advances s line chunk 0 [] s line
-unfolding ready
-no-step s line words work out chunk h =
-    let p = both (soundTotals (s .totals)) _ (h .is) in
-    record { same = λ more. refl; used-most = omega arith; sound = p .0; have-most = leb-true _ _ (both (leb (s .have) (length line)) _ (p .1) .0); line-length = refl }
-
--- the second step begins where the first ended
-step-on : {s t u : State} {line line' line″ chunk text text' : List ℕ} {at used : ℕ}
-    → Advances s line chunk at text t line'
-    → Advances t line' (drop at chunk) used text' u line″
-    → Advances s line chunk (at + used) (text ++ text') u line″
-step-on {s} {t} {u} {line} {line'} {line″} {chunk} {text} {text'} {at} {used} a b = record {
-  same = λ more.
-      a .same more
-      ∙ ap (λ (l : List ℕ). text ++ l) (b .same more)
-      ∙ sym (append-assoc text text' _)
-      ∙ ap (λ (l : List ℕ). (text ++ text') ++ restOf (u .totals) (take (u .have) line″) (l ++ more)) (drop-drop used at chunk);
-  used-most = omega (arith, a .used-most, b .used-most, length-drop at chunk);
-  sound = b .sound;
-  have-most = b .have-most;
-  line-length = b .line-length ∙ a .line-length;
-}
+standing : (s : State) (line words work out chunk : List ℕ) → Ready s line words work out → Advances s line chunk 0 [] s line
+standing s line words work out chunk h =
+    no-step s line chunk (length words) (length work) (length out) (ready-open s (length line) (length words) (length work) (length out) (h .is))
 
 -- ---- one call
 
@@ -98,7 +71,7 @@ pub record Feeding (s : State) (line words work out chunk : List ℕ) (s' : Stat
 pub feeding-first : (s : State) (line words work out chunk : List ℕ) → Ready s line words work out → Feeding s line words work out chunk s line words work out 0
 feeding-first s line words work out chunk h = record {
   text = [];
-  advances = no-step s line words work out chunk h;
+  advances = standing s line words work out chunk h;
   ready = h;
   same-line = refl;
   same-words = refl;
@@ -146,7 +119,7 @@ module _ (s : State) (line words work out chunk : List ℕ) (s' : State) (line' 
 pub none-read : (s : State) (line words work out input : List ℕ) (count : ℕ) → Ready s line words work out → count ≡ 0 → ReadsChunk true s line (take count input) s line
 none-read s line words work out input count h e = record {
   text = [];
-  advances = λ z. subst (λ (n : ℕ). Advances s line (take n input) (length (take n input)) [] s line) (sym e) (no-step s line words work out [] h);
+  advances = λ z. subst (λ (n : ℕ). Advances s line (take n input) (length (take n input)) [] s line) (sym e) (standing s line words work out [] h);
 }
 
 pub some-read : (b : Bool) (s : State) (line input : List ℕ) (count : ℕ) (s' : State) (line' : List ℕ) → ReadsChunk b s line (part 0 count input) s' line' → ReadsChunk b s line (take count input) s' line'
@@ -190,7 +163,7 @@ pub record Going (s : State) (line words work out input : List ℕ) (s' : State)
 
 pub going-first : (s : State) (line words work out input : List ℕ) → Ready s line words work out → length input ≡ 65536 → Going s line words work out input s line words work out input
 going-first s line words work out input h e = record {
-  some = record { bytes = []; chunk = record { text = []; advances = λ z. no-step s line words work out [] h } };
+  some = record { bytes = []; chunk = record { text = []; advances = λ z. standing s line words work out [] h } };
   ready = h;
   same-line = refl;
   same-words = refl;

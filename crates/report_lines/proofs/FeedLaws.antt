@@ -1,64 +1,31 @@
 -- Chunks, and the end of the input. Assumes nothing.
 use mathlib.Core.Path.{_≡_, refl, sym, ap, ap₂, subst, _∙_}
-use mathlib.Core.Bool.{Bool, true, false, not, _&&_}
-use mathlib.Core.List.{List, [], _∷_, _++_, append-assoc}
+use mathlib.Core.Bool.{Bool, true, false, not}
+use mathlib.Core.List.{List, [], _∷_, _++_}
 use Prim.Native.Nat.{ℕ, _+_, _-_, _≤_, _<_, _^_}
 use native.Mathlib.Omega.{arith}
 use mir.Syntax.{w64}
 use mir.Val.{Fits}
-use lib.Dec.{leb}
 use lib.ListN.{length, take, drop, length-append, length-drop, length-take}
-use lib.Seq.{take-at, drop-drop, length-take-le}
-use borrow.Author.Tests.{leb-true, not-true, not-false}
+use lib.Seq.{take-at, length-take-le}
+use borrow.Author.Tests.{not-true, not-false}
 use borrow.Rule.Slice.PartMut.{putMid}
 use Rattle.expr.specs.Parts.{tail, part}
 use Rattle.expr.specs.TailLaws.{tail-drop, length-tail}
 use Rattle.expr.specs.Lent.{Laid}
 use Rattle.expr.specs.LentLaws.{laid-length, laid-on}
-use Rattle.hex.specs.HexLaws.{both-true}
 use Rattle.lines.specs.Lines.{lastLine, linesFrom}
 use Rattle.report_lines.specs.declared.Totals.{Totals}
 use Rattle.report_lines.specs.declared.State.{State}
 use Rattle.report_lines.specs.declared.Step.{Step}
 use Rattle.report_lines.specs.Report.{outcomeOf, textOf, plus, totalsOf, closing}
-use Rattle.report_lines.specs.Steps.{restOf, soundTotals, soundRoom, ready, Lent, Advances, FeedsIf, Feeds, FinishesIf, Finishes}
+use Rattle.report_lines.specs.Steps.{restOf, soundTotals, ready, Lent, Advances, FeedsIf, Feeds, FinishesIf, Finishes}
 use Rattle.report_lines.specs.ReportLaws.{rest-none, rest-full}
+use Rattle.report_lines.specs.StepsLaws.{IsReady, ready-open, no-step, step-on}
 use Rattle.report_lines.specs.Contracts.{Printed, Turnable, Turned, FeedsOn, FedOn, Fed, lastText, Finished}
 use Rattle.report_lines.proofs.ReadyLaws.{sound-open, SoundPlaces, places-open, places-shut}
 use Rattle.report_lines.proofs.TextLaws.{closing-most}
 use Rattle.report_lines.proofs.StepLaws.{rest-line, small, sound-next}
-
--- ---- readiness
-
-record Is (s : State) (line words work out : ℕ) : Type 0 where
-  sound : soundTotals (s .totals) ≡ true
-  have-most : s .have ≤ line
-  room : soundRoom line words work out ≡ true
-
-ready-open : (s : State) (line words work out : ℕ) → ready s line words work out ≡ true → Is s line words work out
-unfolding ready
-ready-open s line words work out e =
-    let p = both-true (soundTotals (s .totals)) (leb (s .have) line && soundRoom line words work out) e in
-    let q = both-true (leb (s .have) line) (soundRoom line words work out) (p .1) in
-    record { sound = p .0; have-most = leb-true (s .have) line (q .0); room = q .1 }
-
--- ---- step after step
-
--- two steps, the second from where the first has stopped
-then : (s t u : State) (line line' line″ chunk : List ℕ) (m n : ℕ) (x y : List ℕ) → Advances s line chunk m x t line' → Advances t line' (tail m chunk) n y u line″
-    → Advances s line chunk (m + n) (x ++ y) u line″
-then s t u line line' line″ chunk m n x y a b = record {
-  same = λ more.
-      a .same more
-      ∙ ap (λ (c : List ℕ). x ++ restOf (t .totals) (take (t .have) line') (c ++ more)) (sym (tail-drop m chunk))
-      ∙ ap (λ (l : List ℕ). x ++ l) (b .same more)
-      ∙ sym (append-assoc x y (restOf (u .totals) (take (u .have) line″) (drop n (tail m chunk) ++ more)))
-      ∙ ap (λ (c : List ℕ). (x ++ y) ++ restOf (u .totals) (take (u .have) line″) (c ++ more)) (ap (drop n) (tail-drop m chunk) ∙ drop-drop n m chunk);
-  used-most = omega (arith, a .used-most, b .used-most, length-tail m chunk);
-  sound = b .sound;
-  have-most = b .have-most;
-  line-length = b .line-length ∙ a .line-length;
-}
 
 -- ---- `feed_line`
 
@@ -94,12 +61,12 @@ pub record Feeding (s : State) (line chunk words work before : List ℕ) (t : St
   pub work-long : length work' ≡ length work
 
 module _ (s : State) (line chunk words work before : List ℕ) (e : ready s (length line) (length words) (length work) (length before) ≡ true) where
-  is : Is s (length line) (length words) (length work) (length before)
+  is : IsReady s (length line) (length words) (length work) (length before)
   is = ready-open s (length line) (length words) (length work) (length before) e
 
   pub none-fed : Feeding s line chunk words work before s line words work before 0 0
   none-fed = record {
-    advances = record { same = λ more. refl; used-most = omega arith; sound = is .sound; have-most = is .have-most; line-length = refl };
+    advances = no-step s line chunk (length words) (length work) (length before) is;
     laid = record { is = refl };
     put-most = omega arith;
     out-long = refl;
@@ -171,7 +138,7 @@ module _ (s : State) (line chunk words work before : List ℕ) (e : ready s (len
           let w : take (put + r .put) out ≡ take put after ++ take (r .put) rest =
           ap (take (put + r .put)) (all-laid .is) ∙ take-at (take put after ++ take (r .put) rest) (drop (length (take put after ++ take (r .put) rest)) before) (put + r .put) k in
           record {
-            advances = subst (λ (x : List ℕ). Advances s line chunk (used + r .used) x (r .state) line″) (sym w) (then s t (r .state) line line' line″ chunk used (r .used) (take put after) (take (r .put) rest) (f .advances) (g .advances));
+            advances = subst (λ (x : List ℕ). Advances s line chunk (used + r .used) x (r .state) line″) (sym w) (step-on (f .advances) (subst (λ (l : List ℕ). Advances t line' l (r .used) (take (r .put) rest) (r .state) line″) (tail-drop used chunk) (g .advances)));
             laid = subst (Laid before out) (sym w) all-laid;
             put-most = omega (arith, g .put-most, f .out-long);
             out-long = laid-length before out (take put after ++ take (r .put) rest) all-laid (omega (arith, g .put-most, f .out-long));
@@ -288,7 +255,7 @@ module _ (t : Totals) (line : List ℕ) (sound : soundTotals t ≡ true) (more :
 pub ruleset last-rules = (last-inside, last-sound, last-room, last-fits, last-count, last-laid, last-long)
 
 module _ (s : State) (line words work before : List ℕ) (e : ready s (length line) (length words) (length work) (length before) ≡ true) where
-  opened : Is s (length line) (length words) (length work) (length before)
+  opened : IsReady s (length line) (length words) (length work) (length before)
   opened = ready-open s (length line) (length words) (length work) (length before) e
 
   room : SoundPlaces (length line) (length words) (length work) (length before)

@@ -4,7 +4,7 @@ use mathlib.Core.Bool.{Bool, true, false, not, _&&_}
 use Prim.Native.Nat.{ℕ, _*_, _≤_, _<_}
 use lib.Dec.{leb, eqb}
 use borrow.Author.Tests.{leb-true, eqb-true, not-true, not-false, le-leb, lt-leb, ne-eqb}
-use Rattle.hex.specs.HexLaws.{both-true}
+use Rattle.arith.specs.ChoiceLaws.{both-true}
 use Rattle.report_lines.specs.declared.Totals.{Totals}
 use Rattle.report_lines.specs.declared.State.{State}
 use Rattle.report_lines.specs.Steps.{soundTotals, soundRoom, ready}

@@ -2,3 +2,4 @@ pub mod Report
 pub mod Steps
 pub mod Contracts
 pub mod ReportLaws
+pub mod StepsLaws

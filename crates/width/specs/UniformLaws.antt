@@ -1,21 +1,17 @@
 -- A tree of one width w, from 1 to 64, has that width, and its widths are consistent. Assumes nothing.
 use mathlib.Core.Path.{_≡_, refl, ap, _∙_}
-use mathlib.Core.Bool.{Bool, true, false, _&&_}
+use mathlib.Core.Bool.{true, _&&_}
 use mathlib.Core.List.{List}
 use Prim.Native.Nat.{ℕ}
 use native.Mathlib.Omega.{arith}
 use lib.ListN.{getD}
 use borrow.Author.Tests.{eqb-true, eq-eqb}
+use Rattle.arith.specs.ChoiceLaws.{both-true}
 use Rattle.expr.specs.Outcome.{Outcome, accepted, _andThen_}
 use Rattle.expr.specs.OutcomeLaws.{then-accepted}
 use Rattle.expr.specs.Expr.{Constant, Variable, Unary, Not, Neg, Shr, ZExt, SExt, Trunc, Binary, Add, Mul, And, Or, Xor, Concat, Expr, leaf, unary, binary}
 use Rattle.width.specs.WidthLaws.{ranged-yes}
 use Rattle.width.specs.Width.{supported, ranged, valid, unaryWidth, binaryWidth, checkedWidthOf, unaryRule, agree, binaryRule, validateWidths, unaryKeeps, binaryKeeps, isUniformWidth}
-
-both-true : (a b : Bool) → (a && b) ≡ true → (a ≡ true) × (b ≡ true)
-both-true true true e = (refl, refl)
-both-true true false e = absurd (let z : _≡_ {A = ℕ} 0 1 = cc in omega arith)
-both-true false b e = absurd (let z : _≡_ {A = ℕ} 0 1 = cc in omega arith)
 
 -- a kind that keeps the width has its first child's and asks only that both are the same
 unary-kept : (k : Unary) (c : Outcome ℕ) → unaryKeeps k ≡ true → (unaryWidth k c ≡ c) × (unaryRule k c ≡ valid)
