@@ -1,3 +1,4 @@
+mod Basics
 pub mod OperandLaws
 pub mod ArmLaws
 pub mod DecideLaws

@@ -1,10 +1,10 @@
 -- `atom_simplifier::admit` meets its contract. Assumes nothing.
-use borrow.Author.Needs.{needs}
+use Rattle.atom_simplifier.proofs.Basics.{basics}
 use Rattle.atom_simplifier.proofs.CallLaws.{admitting}
 use Rattle.atom_simplifier.proofs.admit.Statement.{statement}
 use Rattle.atom_simplifier.proofs.admit.Tie as tie
 
-ruleset rules = (needs, admitting)
+ruleset rules = (basics, admitting)
 
 pub admit-spec : {M : Type 1} → statement M
 admit-spec =

@@ -1,10 +1,10 @@
 -- `atom_simplifier::find_first_certifiable_atom_rewrite` meets its contract. Assumes nothing.
-use borrow.Author.Needs.{needs}
+use Rattle.atom_simplifier.proofs.Basics.{basics}
 use Rattle.atom_simplifier.proofs.CallLaws.{siteCall}
 use Rattle.atom_simplifier.proofs.find_first_certifiable_atom_rewrite.Statement.{statement}
 use Rattle.atom_simplifier.proofs.find_first_certifiable_atom_rewrite.Tie as tie
 
-ruleset rules = (needs, siteCall)
+ruleset rules = (basics, siteCall)
 
 pub find-first-certifiable-atom-rewrite-spec : {M : Type 1} → statement M
 find-first-certifiable-atom-rewrite-spec =

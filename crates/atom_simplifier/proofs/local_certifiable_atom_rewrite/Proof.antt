@@ -1,10 +1,10 @@
 -- `atom_simplifier::local_certifiable_atom_rewrite` meets its contract. Assumes nothing.
-use borrow.Author.Needs.{needs}
+use Rattle.atom_simplifier.proofs.Basics.{basics}
 use Rattle.atom_simplifier.proofs.CallLaws.{localCall}
 use Rattle.atom_simplifier.proofs.local_certifiable_atom_rewrite.Statement.{statement}
 use Rattle.atom_simplifier.proofs.local_certifiable_atom_rewrite.Tie as tie
 
-ruleset rules = (needs, localCall)
+ruleset rules = (basics, localCall)
 
 pub local-certifiable-atom-rewrite-spec : {M : Type 1} → statement M
 local-certifiable-atom-rewrite-spec =

@@ -1,7 +1,7 @@
 -- `build`, `build_one`, `build_right`, `build_two` meet their contracts. Assumes nothing.
 use Prim.Native.Nat.{ℕ, _+_, _*_, _<_}
 use lib.ListN.{length}
-use borrow.Author.Needs.{needs}
+use Rattle.atom_simplifier.proofs.Basics.{basics}
 use borrow.Fn.Kinds.{In}
 use borrow.Fn.PlainCycle.{Measures, is, falls, and}
 use Rattle.atom_simplifier.proofs.chain.build.Reads as tree
@@ -72,13 +72,13 @@ right-claims t = (tree-below t, tree.Post, settle-two.Asked, settle-two.Learnt)
 abbrev two-claims : ℕ → two-lts.Claims
 two-claims t = (tree-below t, tree.Post, right-below t, right.Post)
 
-ruleset tree-rules = (needs, building)
+ruleset tree-rules = (basics, building)
 
-ruleset one-rules = (needs, buildingOne)
+ruleset one-rules = (basics, buildingOne)
 
-ruleset right-rules = (needs, buildingRight)
+ruleset right-rules = (basics, buildingRight)
 
-ruleset two-rules = (needs, buildingTwo)
+ruleset two-rules = (basics, buildingTwo)
 
 pub +build+build-one+build-right+build-two-spec : {M : Type 1} → statement M
 +build+build-one+build-right+build-two-spec = close μ-tree μ-one μ-right μ-two

@@ -1,5 +1,5 @@
 -- `pairs_at` meets its contract. The measure is the number of words left. Assumes nothing.
-use borrow.Author.Needs.{needs}
+use Rattle.atom_simplifier.proofs.Basics.{basics}
 use Prim.Native.Nat.{ℕ, _<_}
 use lib.ListN.{length}
 use borrow.Fn.Kinds.{In}
@@ -28,7 +28,7 @@ pairs-at-below t = and 1 pairs-at-kinds.ps (falls 1 pairs-at-kinds.ps _<_ μ-pai
 abbrev pairs-at-claims : ℕ → pairs-at-lts.Claims
 pairs-at-claims t = (arity-of-reads.Asked, arity-of-reads.Learnt, pairs-at-below t, pairs-at.Post, unary-pairs-reads.Asked, unary-pairs-reads.Learnt, binary-pairs-reads.Asked, binary-pairs-reads.Learnt)
 
-ruleset rules = (needs, counting, walk, tail-short)
+ruleset rules = (basics, counting, walk, tail-short)
 
 pub +pairs-at-spec : {M : Type 1} → statement M
 +pairs-at-spec = close μ-pairs-at

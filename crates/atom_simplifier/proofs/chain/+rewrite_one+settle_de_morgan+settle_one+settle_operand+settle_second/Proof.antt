@@ -1,6 +1,6 @@
 -- `rewrite_one`, `settle_de_morgan`, `settle_one`, `settle_operand`, `settle_second` meet their contracts. Assumes nothing.
 use Prim.Native.Nat.{ℕ, _+_, _*_, _-_, _<_}
-use borrow.Author.Needs.{needs}
+use Rattle.atom_simplifier.proofs.Basics.{basics}
 use borrow.Fn.Kinds.{In}
 use borrow.Fn.PlainCycle.{Measures, is, falls, and}
 use Rattle.atom_simplifier.proofs.chain.rewrite_one.Reads as rewrite
@@ -88,15 +88,15 @@ operand-claims t = (move-down.Asked, move-down.Learnt, put-node.Asked, put-node.
 abbrev second-claims : ℕ → second-lts.Claims
 second-claims t = (operand-below t, operand.Post, settle-two.Asked, settle-two.Learnt)
 
-ruleset rewrite-rules = (needs, rewritingOne)
+ruleset rewrite-rules = (basics, rewritingOne)
 
-ruleset turn-rules = (needs, turning)
+ruleset turn-rules = (basics, turning)
 
-ruleset one-rules = (needs, settlingOne)
+ruleset one-rules = (basics, settlingOne)
 
-ruleset operand-rules = (needs, settlingOperand)
+ruleset operand-rules = (basics, settlingOperand)
 
-ruleset second-rules = (needs, settlingSecond)
+ruleset second-rules = (basics, settlingSecond)
 
 pub +rewrite-one+settle-de-morgan+settle-one+settle-operand+settle-second-spec : {M : Type 1} → statement M
 +rewrite-one+settle-de-morgan+settle-one+settle-operand+settle-second-spec = close μ-rewrite μ-turn μ-one μ-operand μ-second

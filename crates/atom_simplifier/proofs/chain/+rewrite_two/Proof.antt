@@ -1,5 +1,5 @@
 -- `rewrite_two` meets its contract. The measure is the number of the node's words. Assumes nothing.
-use borrow.Author.Needs.{needs}
+use Rattle.atom_simplifier.proofs.Basics.{basics}
 use Prim.Native.Nat.{ℕ, _<_}
 use borrow.Fn.Kinds.{In}
 use borrow.Fn.PlainCycle.{Measures, is, falls, and}
@@ -24,7 +24,7 @@ rewrite-two-below t = and 1 rewrite-two-kinds.ps (falls 1 rewrite-two-kinds.ps _
 abbrev rewrite-two-claims : ℕ → rewrite-two-lts.Claims
 rewrite-two-claims t = (replace-reads.Asked, replace-reads.Learnt, binary-rewrite-reads.Asked, binary-rewrite-reads.Learnt, rewrite-two-below t, rewrite-two.Post)
 
-ruleset rules = (needs, rewritingTwo)
+ruleset rules = (basics, rewritingTwo)
 
 pub +rewrite-two-spec : {M : Type 1} → statement M
 +rewrite-two-spec = close μ-rewrite-two

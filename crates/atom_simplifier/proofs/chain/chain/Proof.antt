@@ -1,10 +1,10 @@
 -- `atom_simplifier::chain::chain` meets its contract. Assumes nothing.
-use borrow.Author.Needs.{needs}
+use Rattle.atom_simplifier.proofs.Basics.{basics}
 use Rattle.atom_simplifier.proofs.ChainedLaws.{chaining}
 use Rattle.atom_simplifier.proofs.chain.chain.Statement.{statement}
 use Rattle.atom_simplifier.proofs.chain.chain.Tie as tie
 
-ruleset rules = (needs, chaining)
+ruleset rules = (basics, chaining)
 
 pub chain-spec : {M : Type 1} → statement M
 chain-spec =

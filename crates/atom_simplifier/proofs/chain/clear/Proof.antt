@@ -1,7 +1,7 @@
 -- `atom_simplifier::chain::clear` meets its contract. The measure is the words that are left. Assumes nothing.
 use Prim.Native.Nat.{_-_}
 use lib.ListN.{length, replicate}
-use borrow.Author.Needs.{needs}
+use Rattle.atom_simplifier.proofs.Basics.{basics}
 use Rattle.atom_simplifier.proofs.InPlaceLaws.{clearing}
 use Rattle.atom_simplifier.proofs.WriteLaws.{Copied, copied-long}
 use Rattle.atom_simplifier.proofs.chain.clear.Statement.{statement}
@@ -13,7 +13,7 @@ Inv-loop work₀ i₀ work i = Copied (replicate (length work₀) 0) work₀ wor
 abbrev μ-loop : tie.MeasureT-loop
 μ-loop work₀ i₀ work i = length work₀ - i
 
-ruleset rules = (needs, clearing, copied-long)
+ruleset rules = (basics, clearing, copied-long)
 
 pub clear-spec : {M : Type 1} → statement M
 clear-spec =

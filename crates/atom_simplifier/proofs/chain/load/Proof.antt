@@ -1,10 +1,10 @@
 -- `atom_simplifier::chain::load` meets its contract. Assumes nothing.
-use borrow.Author.Needs.{needs}
+use Rattle.atom_simplifier.proofs.Basics.{basics}
 use Rattle.atom_simplifier.proofs.BuildLaws.{node-loaded}
 use Rattle.atom_simplifier.proofs.chain.load.Statement.{statement}
 use Rattle.atom_simplifier.proofs.chain.load.Tie as tie
 
-ruleset rules = (needs, node-loaded)
+ruleset rules = (basics, node-loaded)
 
 pub load-spec : {M : Type 1} → statement M
 load-spec =

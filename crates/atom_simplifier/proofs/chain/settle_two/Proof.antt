@@ -1,10 +1,10 @@
 -- `atom_simplifier::chain::settle_two` meets its contract. Assumes nothing.
-use borrow.Author.Needs.{needs}
+use Rattle.atom_simplifier.proofs.Basics.{basics}
 use Rattle.atom_simplifier.proofs.SettleLaws.{settlingTwo}
 use Rattle.atom_simplifier.proofs.chain.settle_two.Statement.{statement}
 use Rattle.atom_simplifier.proofs.chain.settle_two.Tie as tie
 
-ruleset rules = (needs, settlingTwo)
+ruleset rules = (basics, settlingTwo)
 
 pub settle-two-spec : {M : Type 1} → statement M
 settle-two-spec =

@@ -1,10 +1,10 @@
 -- `atom_simplifier::chain::turn_kind` meets its contract. Assumes nothing.
-use borrow.Author.Needs.{needs}
+use Rattle.atom_simplifier.proofs.Basics.{basics}
 use Rattle.atom_simplifier.proofs.TurnLaws.{kind-turned}
 use Rattle.atom_simplifier.proofs.chain.turn_kind.Statement.{statement}
 use Rattle.atom_simplifier.proofs.chain.turn_kind.Tie as tie
 
-ruleset rules = (needs, kind-turned)
+ruleset rules = (basics, kind-turned)
 
 pub turn-kind-spec : {M : Type 1} → statement M
 turn-kind-spec =

@@ -1,10 +1,10 @@
 -- `atom_simplifier::chain::unary_pairs` meets its contract. Assumes nothing.
-use borrow.Author.Needs.{needs}
+use Rattle.atom_simplifier.proofs.Basics.{basics}
 use Rattle.atom_simplifier.proofs.PairsLaws.{unary-stays, unary-adds}
 use Rattle.atom_simplifier.proofs.chain.unary_pairs.Statement.{statement}
 use Rattle.atom_simplifier.proofs.chain.unary_pairs.Tie as tie
 
-ruleset rules = (needs, unary-stays, unary-adds)
+ruleset rules = (basics, unary-stays, unary-adds)
 
 pub unary-pairs-spec : {M : Type 1} → statement M
 unary-pairs-spec =

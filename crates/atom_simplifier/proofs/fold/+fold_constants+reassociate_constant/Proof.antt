@@ -2,7 +2,7 @@
 -- one more for the first, which calls the second on the same words. Assumes nothing.
 use Prim.Native.Nat.{ℕ, _+_, _*_, _<_}
 use lib.ListN.{length}
-use borrow.Author.Needs.{needs}
+use Rattle.atom_simplifier.proofs.Basics.{basics}
 use borrow.Fn.Kinds.{In}
 use borrow.Fn.PlainCycle.{Measures, is, falls, and}
 use Rattle.atom_simplifier.proofs.ReassociateLaws.{reassociation, foldedTwo}
@@ -43,9 +43,9 @@ two-claims t = (folded-word.Asked, folded-word.Learnt, node-below t, node.Post, 
 abbrev node-claims : ℕ → node-lts.Claims
 node-claims t = (right-at.Asked, right-at.Learnt, constant-val.Asked, constant-val.Learnt, two-below t, two.Post)
 
-ruleset two-rules = (needs, foldedTwo)
+ruleset two-rules = (basics, foldedTwo)
 
-ruleset node-rules = (needs, reassociation)
+ruleset node-rules = (basics, reassociation)
 
 pub +fold-constants+reassociate-constant-spec : {M : Type 1} → statement M
 +fold-constants+reassociate-constant-spec = close μ-two μ-node

@@ -1,10 +1,10 @@
 -- `atom_simplifier::fold::are_complements` meets its contract. Assumes nothing.
-use borrow.Author.Needs.{needs}
+use Rattle.atom_simplifier.proofs.Basics.{basics}
 use Rattle.atom_simplifier.proofs.OperandLaws.{operand}
 use Rattle.atom_simplifier.proofs.fold.are_complements.Statement.{statement}
 use Rattle.atom_simplifier.proofs.fold.are_complements.Tie as tie
 
-ruleset rules = (needs, operand)
+ruleset rules = (basics, operand)
 
 pub are-complements-spec : {M : Type 1} → statement M
 are-complements-spec =

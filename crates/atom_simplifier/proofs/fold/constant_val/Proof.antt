@@ -1,10 +1,10 @@
 -- `atom_simplifier::fold::constant_val` meets its contract. Assumes nothing.
-use borrow.Author.Needs.{needs}
+use Rattle.atom_simplifier.proofs.Basics.{basics}
 use Rattle.atom_simplifier.proofs.OperandLaws.{operand}
 use Rattle.atom_simplifier.proofs.fold.constant_val.Statement.{statement}
 use Rattle.atom_simplifier.proofs.fold.constant_val.Tie as tie
 
-ruleset rules = (needs, operand)
+ruleset rules = (basics, operand)
 
 pub constant-val-spec : {M : Type 1} → statement M
 constant-val-spec =

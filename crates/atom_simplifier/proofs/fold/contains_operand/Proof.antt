@@ -1,10 +1,10 @@
 -- `atom_simplifier::fold::contains_operand` meets its contract. Assumes nothing.
-use borrow.Author.Needs.{needs}
+use Rattle.atom_simplifier.proofs.Basics.{basics}
 use Rattle.atom_simplifier.proofs.OperandLaws.{operand}
 use Rattle.atom_simplifier.proofs.fold.contains_operand.Statement.{statement}
 use Rattle.atom_simplifier.proofs.fold.contains_operand.Tie as tie
 
-ruleset rules = (needs, operand)
+ruleset rules = (basics, operand)
 
 pub contains-operand-spec : {M : Type 1} → statement M
 contains-operand-spec =

@@ -1,10 +1,10 @@
 -- `atom_simplifier::fold::either_constant` meets its contract. Assumes nothing.
-use borrow.Author.Needs.{needs}
+use Rattle.atom_simplifier.proofs.Basics.{basics}
 use Rattle.atom_simplifier.proofs.OperandLaws.{operand}
 use Rattle.atom_simplifier.proofs.fold.either_constant.Statement.{statement}
 use Rattle.atom_simplifier.proofs.fold.either_constant.Tie as tie
 
-ruleset rules = (needs, operand)
+ruleset rules = (basics, operand)
 
 pub either-constant-spec : {M : Type 1} → statement M
 either-constant-spec =

@@ -1,10 +1,10 @@
 -- `atom_simplifier::fold::fold_constant` meets its contract. Assumes nothing.
-use borrow.Author.Needs.{needs}
+use Rattle.atom_simplifier.proofs.Basics.{basics}
 use Rattle.atom_simplifier.proofs.ReassociateLaws.{folded}
 use Rattle.atom_simplifier.proofs.fold.fold_constant.Statement.{statement}
 use Rattle.atom_simplifier.proofs.fold.fold_constant.Tie as tie
 
-ruleset rules = (needs, folded)
+ruleset rules = (basics, folded)
 
 pub fold-constant-spec : {M : Type 1} → statement M
 fold-constant-spec =

@@ -1,10 +1,10 @@
 -- `atom_simplifier::fold::fold_node_arms` meets its contract. Assumes nothing.
-use borrow.Author.Needs.{needs}
+use Rattle.atom_simplifier.proofs.Basics.{basics}
 use Rattle.atom_simplifier.proofs.NodeFoldLaws.{nodeFold}
 use Rattle.atom_simplifier.proofs.fold.fold_node_arms.Statement.{statement}
 use Rattle.atom_simplifier.proofs.fold.fold_node_arms.Tie as tie
 
-ruleset rules = (needs, nodeFold)
+ruleset rules = (basics, nodeFold)
 
 pub fold-node-arms-spec : {M : Type 1} → statement M
 fold-node-arms-spec =

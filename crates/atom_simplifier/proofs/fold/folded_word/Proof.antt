@@ -1,10 +1,10 @@
 -- `atom_simplifier::fold::folded_word` meets its contract. Assumes nothing.
-use borrow.Author.Needs.{needs}
+use Rattle.atom_simplifier.proofs.Basics.{basics}
 use Rattle.atom_simplifier.proofs.ArmLaws.{arm}
 use Rattle.atom_simplifier.proofs.fold.folded_word.Statement.{statement}
 use Rattle.atom_simplifier.proofs.fold.folded_word.Tie as tie
 
-ruleset rules = (needs, arm)
+ruleset rules = (basics, arm)
 
 pub folded-word-spec : {M : Type 1} → statement M
 folded-word-spec =

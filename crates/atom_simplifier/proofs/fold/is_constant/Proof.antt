@@ -1,10 +1,10 @@
 -- `atom_simplifier::fold::is_constant` meets its contract. Assumes nothing.
-use borrow.Author.Needs.{needs}
+use Rattle.atom_simplifier.proofs.Basics.{basics}
 use Rattle.atom_simplifier.proofs.OperandLaws.{operand}
 use Rattle.atom_simplifier.proofs.fold.is_constant.Statement.{statement}
 use Rattle.atom_simplifier.proofs.fold.is_constant.Tie as tie
 
-ruleset rules = (needs, operand)
+ruleset rules = (basics, operand)
 
 pub is-constant-spec : {M : Type 1} → statement M
 is-constant-spec =

@@ -1,10 +1,10 @@
 -- `atom_simplifier::fold::is_not_of` meets its contract. Assumes nothing.
-use borrow.Author.Needs.{needs}
+use Rattle.atom_simplifier.proofs.Basics.{basics}
 use Rattle.atom_simplifier.proofs.OperandLaws.{operand}
 use Rattle.atom_simplifier.proofs.fold.is_not_of.Statement.{statement}
 use Rattle.atom_simplifier.proofs.fold.is_not_of.Tie as tie
 
-ruleset rules = (needs, operand)
+ruleset rules = (basics, operand)
 
 pub is-not-of-spec : {M : Type 1} → statement M
 is-not-of-spec =

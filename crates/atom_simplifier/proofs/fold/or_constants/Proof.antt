@@ -1,10 +1,10 @@
 -- `atom_simplifier::fold::or_constants` meets its contract. Assumes nothing.
-use borrow.Author.Needs.{needs}
+use Rattle.atom_simplifier.proofs.Basics.{basics}
 use Rattle.atom_simplifier.proofs.ArmLaws.{arm}
 use Rattle.atom_simplifier.proofs.fold.or_constants.Statement.{statement}
 use Rattle.atom_simplifier.proofs.fold.or_constants.Tie as tie
 
-ruleset rules = (needs, arm)
+ruleset rules = (basics, arm)
 
 pub or-constants-spec : {M : Type 1} → statement M
 or-constants-spec =

@@ -1,10 +1,10 @@
 -- `atom_simplifier::fold::reassociate_beside` meets its contract. Assumes nothing.
-use borrow.Author.Needs.{needs}
+use Rattle.atom_simplifier.proofs.Basics.{basics}
 use Rattle.atom_simplifier.proofs.NodeFoldLaws.{nodeFold}
 use Rattle.atom_simplifier.proofs.fold.reassociate_beside.Statement.{statement}
 use Rattle.atom_simplifier.proofs.fold.reassociate_beside.Tie as tie
 
-ruleset rules = (needs, nodeFold)
+ruleset rules = (basics, nodeFold)
 
 pub reassociate-beside-spec : {M : Type 1} → statement M
 reassociate-beside-spec =

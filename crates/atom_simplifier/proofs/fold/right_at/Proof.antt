@@ -1,10 +1,10 @@
 -- `atom_simplifier::fold::right_at` meets its contract. Assumes nothing.
-use borrow.Author.Needs.{needs}
+use Rattle.atom_simplifier.proofs.Basics.{basics}
 use Rattle.atom_simplifier.proofs.OperandLaws.{operand}
 use Rattle.atom_simplifier.proofs.fold.right_at.Statement.{statement}
 use Rattle.atom_simplifier.proofs.fold.right_at.Tie as tie
 
-ruleset rules = (needs, operand)
+ruleset rules = (basics, operand)
 
 pub right-at-spec : {M : Type 1} → statement M
 right-at-spec =

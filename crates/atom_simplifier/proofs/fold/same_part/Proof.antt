@@ -1,10 +1,10 @@
 -- `atom_simplifier::fold::same_part` meets its contract. Assumes nothing.
-use borrow.Author.Needs.{needs}
+use Rattle.atom_simplifier.proofs.Basics.{basics}
 use Rattle.atom_simplifier.proofs.OperandLaws.{operand}
 use Rattle.atom_simplifier.proofs.fold.same_part.Statement.{statement}
 use Rattle.atom_simplifier.proofs.fold.same_part.Tie as tie
 
-ruleset rules = (needs, operand)
+ruleset rules = (basics, operand)
 
 pub same-part-spec : {M : Type 1} → statement M
 same-part-spec =

@@ -1,10 +1,10 @@
 -- `atom_simplifier::fold::try_fold_binary` meets its contract. Assumes nothing.
-use borrow.Author.Needs.{needs}
+use Rattle.atom_simplifier.proofs.Basics.{basics}
 use Rattle.atom_simplifier.proofs.NodeFoldLaws.{nodeFold}
 use Rattle.atom_simplifier.proofs.fold.try_fold_binary.Statement.{statement}
 use Rattle.atom_simplifier.proofs.fold.try_fold_binary.Tie as tie
 
-ruleset rules = (needs, nodeFold)
+ruleset rules = (basics, nodeFold)
 
 pub try-fold-binary-spec : {M : Type 1} → statement M
 try-fold-binary-spec =

@@ -1,10 +1,10 @@
 -- `atom_simplifier::local::and_rewrite` meets its contract. Assumes nothing.
-use borrow.Author.Needs.{needs}
+use Rattle.atom_simplifier.proofs.Basics.{basics}
 use Rattle.atom_simplifier.proofs.LocalLaws.{pairRule}
 use Rattle.atom_simplifier.proofs.local.and_rewrite.Statement.{statement}
 use Rattle.atom_simplifier.proofs.local.and_rewrite.Tie as tie
 
-ruleset rules = (needs, pairRule)
+ruleset rules = (basics, pairRule)
 
 pub and-rewrite-spec : {M : Type 1} → statement M
 and-rewrite-spec =

@@ -1,10 +1,10 @@
 -- `atom_simplifier::local::binary_rewrite` meets its contract. Assumes nothing.
-use borrow.Author.Needs.{needs}
+use Rattle.atom_simplifier.proofs.Basics.{basics}
 use Rattle.atom_simplifier.proofs.LocalLaws.{pairRule}
 use Rattle.atom_simplifier.proofs.local.binary_rewrite.Statement.{statement}
 use Rattle.atom_simplifier.proofs.local.binary_rewrite.Tie as tie
 
-ruleset rules = (needs, pairRule)
+ruleset rules = (basics, pairRule)
 
 pub binary-rewrite-spec : {M : Type 1} → statement M
 binary-rewrite-spec =

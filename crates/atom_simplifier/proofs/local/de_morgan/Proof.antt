@@ -1,10 +1,10 @@
 -- `atom_simplifier::local::de_morgan` meets its contract. Assumes nothing.
-use borrow.Author.Needs.{needs}
+use Rattle.atom_simplifier.proofs.Basics.{basics}
 use Rattle.atom_simplifier.proofs.LocalLaws.{notRule}
 use Rattle.atom_simplifier.proofs.local.de_morgan.Statement.{statement}
 use Rattle.atom_simplifier.proofs.local.de_morgan.Tie as tie
 
-ruleset rules = (needs, notRule)
+ruleset rules = (basics, notRule)
 
 pub de-morgan-spec : {M : Type 1} → statement M
 de-morgan-spec =

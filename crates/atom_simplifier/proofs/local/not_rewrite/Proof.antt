@@ -1,10 +1,10 @@
 -- `atom_simplifier::local::not_rewrite` meets its contract. Assumes nothing.
-use borrow.Author.Needs.{needs}
+use Rattle.atom_simplifier.proofs.Basics.{basics}
 use Rattle.atom_simplifier.proofs.LocalLaws.{notRule}
 use Rattle.atom_simplifier.proofs.local.not_rewrite.Statement.{statement}
 use Rattle.atom_simplifier.proofs.local.not_rewrite.Tie as tie
 
-ruleset rules = (needs, notRule)
+ruleset rules = (basics, notRule)
 
 pub not-rewrite-spec : {M : Type 1} → statement M
 not-rewrite-spec =

@@ -1,10 +1,10 @@
 -- `atom_simplifier::local::root_rewrite` meets its contract. Assumes nothing.
-use borrow.Author.Needs.{needs}
+use Rattle.atom_simplifier.proofs.Basics.{basics}
 use Rattle.atom_simplifier.proofs.LocalLaws.{rootRule}
 use Rattle.atom_simplifier.proofs.local.root_rewrite.Statement.{statement}
 use Rattle.atom_simplifier.proofs.local.root_rewrite.Tie as tie
 
-ruleset rules = (needs, rootRule)
+ruleset rules = (basics, rootRule)
 
 pub root-rewrite-spec : {M : Type 1} → statement M
 root-rewrite-spec =

@@ -1,10 +1,10 @@
 -- `atom_simplifier::local::unary_rewrite` meets its contract. Assumes nothing.
-use borrow.Author.Needs.{needs}
+use Rattle.atom_simplifier.proofs.Basics.{basics}
 use Rattle.atom_simplifier.proofs.LocalLaws.{unaryRule}
 use Rattle.atom_simplifier.proofs.local.unary_rewrite.Statement.{statement}
 use Rattle.atom_simplifier.proofs.local.unary_rewrite.Tie as tie
 
-ruleset rules = (needs, unaryRule)
+ruleset rules = (basics, unaryRule)
 
 pub unary-rewrite-spec : {M : Type 1} → statement M
 unary-rewrite-spec =

@@ -2,7 +2,7 @@
 -- none more, as the calls on the same words come one after the other. Assumes nothing.
 use Prim.Native.Nat.{ℕ, _+_, _*_, _<_}
 use lib.ListN.{length}
-use borrow.Author.Needs.{needs}
+use Rattle.atom_simplifier.proofs.Basics.{basics}
 use borrow.Fn.Kinds.{In}
 use borrow.Fn.PlainCycle.{Measures, is, falls, and}
 use Rattle.atom_simplifier.proofs.SearchLaws.{searching, fromRight, inChild}
@@ -59,11 +59,11 @@ right-claims t = (child-below t, child.Post, binary-rewrite.Asked, binary-rewrit
 abbrev child-claims : ℕ → child-lts.Claims
 child-claims t = (tree-below t, tree.Post, under-parent.Asked, under-parent.Learnt)
 
-ruleset tree-rules = (needs, searching)
+ruleset tree-rules = (basics, searching)
 
-ruleset right-rules = (needs, fromRight)
+ruleset right-rules = (basics, fromRight)
 
-ruleset child-rules = (needs, inChild)
+ruleset child-rules = (basics, inChild)
 
 pub +find-first-certifiable-atom-rewrite-at+find-from-right+find-in-child-spec : {M : Type 1} → statement M
 +find-first-certifiable-atom-rewrite-at+find-from-right+find-in-child-spec = close μ-tree μ-right μ-child

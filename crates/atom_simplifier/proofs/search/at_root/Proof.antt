@@ -1,10 +1,10 @@
 -- `atom_simplifier::search::at_root` meets its contract. Assumes nothing.
-use borrow.Author.Needs.{needs}
+use Rattle.atom_simplifier.proofs.Basics.{basics}
 use Rattle.atom_simplifier.proofs.SearchLaws.{rooting}
 use Rattle.atom_simplifier.proofs.search.at_root.Statement.{statement}
 use Rattle.atom_simplifier.proofs.search.at_root.Tie as tie
 
-ruleset rules = (needs, rooting)
+ruleset rules = (basics, rooting)
 
 pub at-root-spec : {M : Type 1} → statement M
 at-root-spec =

@@ -1,10 +1,10 @@
 -- `atom_simplifier::write::dual` meets its contract. Assumes nothing.
-use borrow.Author.Needs.{needs}
+use Rattle.atom_simplifier.proofs.Basics.{basics}
 use Rattle.atom_simplifier.proofs.WriteLaws.{writing}
 use Rattle.atom_simplifier.proofs.write.dual.Statement.{statement}
 use Rattle.atom_simplifier.proofs.write.dual.Tie as tie
 
-ruleset rules = (needs, writing)
+ruleset rules = (basics, writing)
 
 pub dual-spec : {M : Type 1} → statement M
 dual-spec =

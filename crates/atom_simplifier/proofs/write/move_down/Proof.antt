@@ -1,6 +1,6 @@
 -- `atom_simplifier::write::move_down` meets its contract. The measure is the words that are left. Assumes nothing.
 use Prim.Native.Nat.{_+_, _-_}
-use borrow.Author.Needs.{needs}
+use Rattle.atom_simplifier.proofs.Basics.{basics}
 use Rattle.expr.specs.Parts.{part}
 use Rattle.atom_simplifier.proofs.InPlaceLaws.{moving}
 use Rattle.atom_simplifier.proofs.WriteLaws.{Copied, copied-long}
@@ -13,7 +13,7 @@ Inv-loop ws₀ by len i₀ ws i = Copied (part by (by + len) ws₀) ws₀ ws i
 abbrev μ-loop : tie.MeasureT-loop
 μ-loop ws₀ by len i₀ ws i = len - i
 
-ruleset rules = (needs, moving, copied-long)
+ruleset rules = (basics, moving, copied-long)
 
 pub move-down-spec : {M : Type 1} → statement M
 move-down-spec =

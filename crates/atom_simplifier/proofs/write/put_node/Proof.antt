@@ -1,10 +1,10 @@
 -- `atom_simplifier::write::put_node` meets its contract. Assumes nothing.
-use borrow.Author.Needs.{needs}
+use Rattle.atom_simplifier.proofs.Basics.{basics}
 use Rattle.atom_simplifier.proofs.WriteLaws.{writing}
 use Rattle.atom_simplifier.proofs.write.put_node.Statement.{statement}
 use Rattle.atom_simplifier.proofs.write.put_node.Tie as tie
 
-ruleset rules = (needs, writing)
+ruleset rules = (basics, writing)
 
 pub put-node-spec : {M : Type 1} → statement M
 put-node-spec =

@@ -1,11 +1,11 @@
 -- `atom_simplifier::write::replace` meets its contract. Assumes nothing.
-use borrow.Author.Needs.{needs}
+use Rattle.atom_simplifier.proofs.Basics.{basics}
 use Rattle.expr.specs.LentLaws.{laid-length}
 use Rattle.atom_simplifier.proofs.ReplaceLaws.{inPlace}
 use Rattle.atom_simplifier.proofs.write.replace.Statement.{statement}
 use Rattle.atom_simplifier.proofs.write.replace.Tie as tie
 
-ruleset rules = (needs, inPlace, laid-length)
+ruleset rules = (basics, inPlace, laid-length)
 
 pub replace-spec : {M : Type 1} → statement M
 replace-spec =

@@ -1,10 +1,10 @@
 -- `atom_simplifier::write::write_join` meets its contract. Assumes nothing.
-use borrow.Author.Needs.{needs}
+use Rattle.atom_simplifier.proofs.Basics.{basics}
 use Rattle.atom_simplifier.proofs.WriteLaws.{writing}
 use Rattle.atom_simplifier.proofs.write.write_join.Statement.{statement}
 use Rattle.atom_simplifier.proofs.write.write_join.Tie as tie
 
-ruleset rules = (needs, writing)
+ruleset rules = (basics, writing)
 
 pub write-join-spec : {M : Type 1} → statement M
 write-join-spec =

@@ -1,10 +1,10 @@
 -- `atom_simplifier::write::write_not` meets its contract. Assumes nothing.
-use borrow.Author.Needs.{needs}
+use Rattle.atom_simplifier.proofs.Basics.{basics}
 use Rattle.atom_simplifier.proofs.WriteLaws.{writing}
 use Rattle.atom_simplifier.proofs.write.write_not.Statement.{statement}
 use Rattle.atom_simplifier.proofs.write.write_not.Tie as tie
 
-ruleset rules = (needs, writing)
+ruleset rules = (basics, writing)
 
 pub write-not-spec : {M : Type 1} → statement M
 write-not-spec =

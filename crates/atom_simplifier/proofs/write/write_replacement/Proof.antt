@@ -1,10 +1,10 @@
 -- `atom_simplifier::write::write_replacement` meets its contract. Assumes nothing.
-use borrow.Author.Needs.{needs}
+use Rattle.atom_simplifier.proofs.Basics.{basics}
 use Rattle.atom_simplifier.proofs.ReplacementLaws.{replacing}
 use Rattle.atom_simplifier.proofs.write.write_replacement.Statement.{statement}
 use Rattle.atom_simplifier.proofs.write.write_replacement.Tie as tie
 
-ruleset rules = (needs, replacing)
+ruleset rules = (basics, replacing)
 
 pub write-replacement-spec : {M : Type 1} → statement M
 write-replacement-spec =
