@@ -1,4 +1,5 @@
--- What every proof of a function hands to `search`, next to its own laws: `needs` of the logic without the lemmas on arrays, signed numbers and floats, which nothing here has. Assumes nothing.
+-- What the proof of each function hands to `search` beside its own laws: of the logic's `needs` only what is used here, so without its lemmas on
+-- arrays, signed numbers and floats. Assumes nothing.
 use native.Mathlib.Nat.{le-refl}
 use native.Mathlib.Omega.{arith}
 use lib.Dec.{lit<, lit≤}

@@ -1,3 +1,4 @@
+mod Basics
 mod TextLaws
 mod ReadyLaws
 mod ConditionsLaws

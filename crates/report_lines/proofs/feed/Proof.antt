@@ -1,10 +1,10 @@
 -- `report_lines::feed` meets its contract. Assumes nothing.
 use Rattle.report_lines.proofs.FeedLaws.{calls}
-use borrow.Author.Needs.{needs}
+use Rattle.report_lines.proofs.Basics.{basics}
 use Rattle.report_lines.proofs.feed.Statement.{statement}
 use Rattle.report_lines.proofs.feed.Tie as tie
 
-ruleset rules = (needs, calls)
+ruleset rules = (basics, calls)
 
 pub feed-spec : {M : Type 1} → statement M
 feed-spec =

@@ -2,7 +2,7 @@
 use Prim.Native.Nat.{_-_}
 use lib.ListN.{length}
 use Rattle.report_lines.proofs.FeedLaws.{Feeding, feeding, more-fed}
-use borrow.Author.Needs.{needs}
+use Rattle.report_lines.proofs.Basics.{basics}
 use Rattle.report_lines.proofs.feed_lines.Statement.{statement}
 use Rattle.report_lines.proofs.feed_lines.Tie as tie
 
@@ -12,7 +12,7 @@ Inv-loop chunk line₀ words₀ work₀ out₀ at₀ line words work out at = Fe
 abbrev μ-loop : tie.MeasureT-loop
 μ-loop chunk line₀ words₀ work₀ out₀ at₀ line words work out at = length chunk - at .used
 
-ruleset rules = (needs, feeding)
+ruleset rules = (basics, feeding)
 
 pub feed-lines-spec : {M : Type 1} → statement M
 feed-lines-spec =
@@ -38,7 +38,7 @@ feed-lines-spec =
     let g = c .before .before .before .before .before .before .before .before in
     let e = g .before .before .before .before .before in
     let l = e .before .before .before .before .before .before in
-    more-fed _ _ _ _ _ _ (l .before .before .before .before .before .before .before .before .pre .0) _ _ _ _ _ (l .before .before .loop .inv) _ _ _ _ _ (g .feed-line .ensures) (l .if1 .taken) (e .if3 .left) (search needs) (search needs))
+    more-fed _ _ _ _ _ _ (l .before .before .before .before .before .before .before .before .pre .0) _ _ _ _ _ (l .before .before .loop .inv) _ _ _ _ _ (g .feed-line .ensures) (l .if1 .taken) (e .if3 .left) (search basics) (search basics))
     (λ c. search rules)
     (λ c. search rules)
     (λ c. search rules)

@@ -1,10 +1,10 @@
 -- `report_lines::finish_lines` meets its contract. Assumes nothing.
 use Rattle.report_lines.proofs.FeedLaws.{finishing}
-use borrow.Author.Needs.{needs}
+use Rattle.report_lines.proofs.Basics.{basics}
 use Rattle.report_lines.proofs.finish_lines.Statement.{statement}
 use Rattle.report_lines.proofs.finish_lines.Tie as tie
 
-ruleset rules = (needs, finishing)
+ruleset rules = (basics, finishing)
 
 pub finish-lines-spec : {M : Type 1} → statement M
 finish-lines-spec =

@@ -1,10 +1,10 @@
 -- `report_lines::is_ready` meets its contract. Assumes nothing.
 use Rattle.report_lines.proofs.ReadyLaws.{sound-state}
-use borrow.Author.Needs.{needs}
+use Rattle.report_lines.proofs.Basics.{basics}
 use Rattle.report_lines.proofs.is_ready.Statement.{statement}
 use Rattle.report_lines.proofs.is_ready.Tie as tie
 
-ruleset rules = (needs, sound-state)
+ruleset rules = (basics, sound-state)
 
 pub is-ready-spec : {M : Type 1} → statement M
 is-ready-spec =

@@ -1,10 +1,10 @@
 -- `report_lines::put_last` meets its contract. Assumes nothing.
 use Rattle.report_lines.proofs.FeedLaws.{last-rules}
-use borrow.Author.Needs.{needs}
+use Rattle.report_lines.proofs.Basics.{basics}
 use Rattle.report_lines.proofs.put_last.Statement.{statement}
 use Rattle.report_lines.proofs.put_last.Tie as tie
 
-ruleset rules = (needs, last-rules)
+ruleset rules = (basics, last-rules)
 
 pub put-last-spec : {M : Type 1} → statement M
 put-last-spec =

@@ -1,10 +1,10 @@
 -- `report_lines::sound_room` meets its contract. Assumes nothing.
 use Rattle.report_lines.proofs.ReadyLaws.{sound-places}
-use borrow.Author.Needs.{needs}
+use Rattle.report_lines.proofs.Basics.{basics}
 use Rattle.report_lines.proofs.sound_room.Statement.{statement}
 use Rattle.report_lines.proofs.sound_room.Tie as tie
 
-ruleset rules = (needs, sound-places)
+ruleset rules = (basics, sound-places)
 
 pub sound-room-spec : {M : Type 1} → statement M
 sound-room-spec =

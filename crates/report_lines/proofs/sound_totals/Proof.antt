@@ -1,10 +1,10 @@
 -- `report_lines::sound_totals` meets its contract. Assumes nothing.
 use Rattle.report_lines.proofs.ReadyLaws.{sound-sums}
-use borrow.Author.Needs.{needs}
+use Rattle.report_lines.proofs.Basics.{basics}
 use Rattle.report_lines.proofs.sound_totals.Statement.{statement}
 use Rattle.report_lines.proofs.sound_totals.Tie as tie
 
-ruleset rules = (needs, sound-sums)
+ruleset rules = (basics, sound-sums)
 
 pub sound-totals-spec : {M : Type 1} → statement M
 sound-totals-spec =

@@ -1,10 +1,10 @@
 -- `report_lines::turn` meets its contract. Assumes nothing.
 use Rattle.report_lines.proofs.StepLaws.{turning}
-use borrow.Author.Needs.{needs}
+use Rattle.report_lines.proofs.Basics.{basics}
 use Rattle.report_lines.proofs.turn.Statement.{statement}
 use Rattle.report_lines.proofs.turn.Tie as tie
 
-ruleset rules = (needs, turning)
+ruleset rules = (basics, turning)
 
 pub turn-spec : {M : Type 1} → statement M
 turn-spec =

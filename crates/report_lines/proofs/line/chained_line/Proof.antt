@@ -1,10 +1,10 @@
 -- `report_lines::line::chained_line` meets its contract. Assumes nothing.
 use Rattle.report_lines.proofs.PrintedLaws.{chaining}
-use borrow.Author.Needs.{needs}
+use Rattle.report_lines.proofs.Basics.{basics}
 use Rattle.report_lines.proofs.line.chained_line.Statement.{statement}
 use Rattle.report_lines.proofs.line.chained_line.Tie as tie
 
-ruleset rules = (needs, chaining)
+ruleset rules = (basics, chaining)
 
 pub chained-line-spec : {M : Type 1} → statement M
 chained-line-spec =

@@ -2,7 +2,7 @@
 use Prim.Native.Nat.{_-_}
 use lib.ListN.{length}
 use Rattle.report_lines.proofs.ConditionsLaws.{Finding, finding}
-use borrow.Author.Needs.{needs}
+use Rattle.report_lines.proofs.Basics.{basics}
 use Rattle.report_lines.proofs.line.conditions.Statement.{statement}
 use Rattle.report_lines.proofs.line.conditions.Tie as tie
 
@@ -12,7 +12,7 @@ Inv-loop words found₀ i₀ found i = Finding words found i
 abbrev μ-loop : tie.MeasureT-loop
 μ-loop words found₀ i₀ found i = length words - i
 
-ruleset rules = (needs, finding)
+ruleset rules = (basics, finding)
 
 pub conditions-spec : {M : Type 1} → statement M
 conditions-spec =

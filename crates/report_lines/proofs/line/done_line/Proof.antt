@@ -1,10 +1,10 @@
 -- `report_lines::line::done_line` meets its contract. Assumes nothing.
 use Rattle.report_lines.proofs.PrintedLaws.{accepting}
-use borrow.Author.Needs.{needs}
+use Rattle.report_lines.proofs.Basics.{basics}
 use Rattle.report_lines.proofs.line.done_line.Statement.{statement}
 use Rattle.report_lines.proofs.line.done_line.Tie as tie
 
-ruleset rules = (needs, accepting)
+ruleset rules = (basics, accepting)
 
 pub done-line-spec : {M : Type 1} → statement M
 done-line-spec =

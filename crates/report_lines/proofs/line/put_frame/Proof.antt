@@ -1,10 +1,10 @@
 -- `report_lines::line::put_frame` meets its contract. Assumes nothing.
 use Rattle.report_lines.proofs.PrintedLaws.{framing}
-use borrow.Author.Needs.{needs}
+use Rattle.report_lines.proofs.Basics.{basics}
 use Rattle.report_lines.proofs.line.put_frame.Statement.{statement}
 use Rattle.report_lines.proofs.line.put_frame.Tie as tie
 
-ruleset rules = (needs, framing)
+ruleset rules = (basics, framing)
 
 pub put-frame-spec : {M : Type 1} → statement M
 put-frame-spec =

@@ -1,10 +1,10 @@
 -- `report_lines::line::put_line` meets its contract. Assumes nothing.
 use Rattle.report_lines.proofs.PrintedLaws.{reading}
-use borrow.Author.Needs.{needs}
+use Rattle.report_lines.proofs.Basics.{basics}
 use Rattle.report_lines.proofs.line.put_line.Statement.{statement}
 use Rattle.report_lines.proofs.line.put_line.Tie as tie
 
-ruleset rules = (needs, reading)
+ruleset rules = (basics, reading)
 
 pub put-line-spec : {M : Type 1} → statement M
 put-line-spec =

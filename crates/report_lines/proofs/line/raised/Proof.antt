@@ -1,10 +1,10 @@
 -- `report_lines::line::raised` meets its contract. Assumes nothing.
 use Rattle.report_lines.proofs.ConditionsLaws.{one-node}
-use borrow.Author.Needs.{needs}
+use Rattle.report_lines.proofs.Basics.{basics}
 use Rattle.report_lines.proofs.line.raised.Statement.{statement}
 use Rattle.report_lines.proofs.line.raised.Tie as tie
 
-ruleset rules = (needs, one-node)
+ruleset rules = (basics, one-node)
 
 pub raised-spec : {M : Type 1} → statement M
 raised-spec =

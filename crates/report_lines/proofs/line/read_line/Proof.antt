@@ -1,10 +1,10 @@
 -- `report_lines::line::read_line` meets its contract. Assumes nothing.
 use Rattle.report_lines.proofs.PrintedLaws.{decoding}
-use borrow.Author.Needs.{needs}
+use Rattle.report_lines.proofs.Basics.{basics}
 use Rattle.report_lines.proofs.line.read_line.Statement.{statement}
 use Rattle.report_lines.proofs.line.read_line.Tie as tie
 
-ruleset rules = (needs, decoding)
+ruleset rules = (basics, decoding)
 
 pub read-line-spec : {M : Type 1} → statement M
 read-line-spec =

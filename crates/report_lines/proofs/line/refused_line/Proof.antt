@@ -1,10 +1,10 @@
 -- `report_lines::line::refused_line` meets its contract. Assumes nothing.
 use Rattle.report_lines.proofs.PrintedLaws.{refusing}
-use borrow.Author.Needs.{needs}
+use Rattle.report_lines.proofs.Basics.{basics}
 use Rattle.report_lines.proofs.line.refused_line.Statement.{statement}
 use Rattle.report_lines.proofs.line.refused_line.Tie as tie
 
-ruleset rules = (needs, refusing)
+ruleset rules = (basics, refusing)
 
 pub refused-line-spec : {M : Type 1} → statement M
 refused-line-spec =

@@ -1,10 +1,10 @@
 -- `report_lines::line::run_whole` meets its contract. Assumes nothing.
 use Rattle.report_lines.proofs.RanLaws.{running}
-use borrow.Author.Needs.{needs}
+use Rattle.report_lines.proofs.Basics.{basics}
 use Rattle.report_lines.proofs.line.run_whole.Statement.{statement}
 use Rattle.report_lines.proofs.line.run_whole.Tie as tie
 
-ruleset rules = (needs, running)
+ruleset rules = (basics, running)
 
 pub run-whole-spec : {M : Type 1} → statement M
 run-whole-spec =

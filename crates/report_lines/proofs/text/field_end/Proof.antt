@@ -1,10 +1,10 @@
 -- `report_lines::text::field_end` meets its contract. Assumes nothing.
 use Rattle.report_lines.proofs.TextLaws.{small}
-use borrow.Author.Needs.{needs}
+use Rattle.report_lines.proofs.Basics.{basics}
 use Rattle.report_lines.proofs.text.field_end.Statement.{statement}
 use Rattle.report_lines.proofs.text.field_end.Tie as tie
 
-ruleset rules = (needs, small)
+ruleset rules = (basics, small)
 
 pub field-end-spec : {M : Type 1} → statement M
 field-end-spec =

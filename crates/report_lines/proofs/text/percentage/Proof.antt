@@ -1,10 +1,10 @@
 -- `report_lines::text::percentage` meets its contract. Assumes nothing.
 use Rattle.report_lines.proofs.TextLaws.{small}
-use borrow.Author.Needs.{needs}
+use Rattle.report_lines.proofs.Basics.{basics}
 use Rattle.report_lines.proofs.text.percentage.Statement.{statement}
 use Rattle.report_lines.proofs.text.percentage.Tie as tie
 
-ruleset rules = (needs, small)
+ruleset rules = (basics, small)
 
 pub percentage-spec : {M : Type 1} → statement M
 percentage-spec =

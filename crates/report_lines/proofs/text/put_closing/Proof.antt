@@ -1,10 +1,10 @@
 -- `report_lines::text::put_closing` meets its contract. Assumes nothing.
 use Rattle.report_lines.proofs.TextLaws.{close-line}
-use borrow.Author.Needs.{needs}
+use Rattle.report_lines.proofs.Basics.{basics}
 use Rattle.report_lines.proofs.text.put_closing.Statement.{statement}
 use Rattle.report_lines.proofs.text.put_closing.Tie as tie
 
-ruleset rules = (needs, close-line)
+ruleset rules = (basics, close-line)
 
 pub put-closing-spec : {M : Type 1} → statement M
 put-closing-spec =

@@ -1,10 +1,10 @@
 -- `report_lines::text::put_field` meets its contract. Assumes nothing.
 use Rattle.report_lines.proofs.TextLaws.{one-field}
-use borrow.Author.Needs.{needs}
+use Rattle.report_lines.proofs.Basics.{basics}
 use Rattle.report_lines.proofs.text.put_field.Statement.{statement}
 use Rattle.report_lines.proofs.text.put_field.Tie as tie
 
-ruleset rules = (needs, one-field)
+ruleset rules = (basics, one-field)
 
 pub put-field-spec : {M : Type 1} → statement M
 put-field-spec =

@@ -2,7 +2,7 @@
 use Prim.Native.Nat.{_-_}
 use lib.ListN.{length}
 use Rattle.report_lines.proofs.TextLaws.{Fielding, all-fields}
-use borrow.Author.Needs.{needs}
+use Rattle.report_lines.proofs.Basics.{basics}
 use Rattle.report_lines.proofs.text.put_fields.Statement.{statement}
 use Rattle.report_lines.proofs.text.put_fields.Tie as tie
 
@@ -12,7 +12,7 @@ Inv-loop numbers out₀ at₀ i₀ out at i = Fielding numbers out₀ out at i
 abbrev μ-loop : tie.MeasureT-loop
 μ-loop numbers out₀ at₀ i₀ out at i = length numbers - i
 
-ruleset rules = (needs, all-fields)
+ruleset rules = (basics, all-fields)
 
 pub put-fields-spec : {M : Type 1} → statement M
 put-fields-spec =
