@@ -1,4 +1,4 @@
-mod Basics
+pub mod Basics
 pub mod OperandLaws
 pub mod ArmLaws
 pub mod DecideLaws

@@ -1,4 +1,3 @@
-mod Basics
 mod TextLaws
 mod ReadyLaws
 mod ConditionsLaws

@@ -1,6 +1,6 @@
 -- `report_lines::line::refused_line` meets its contract. Assumes nothing.
 use Rattle.report_lines.proofs.PrintedLaws.{refusing}
-use Rattle.report_lines.proofs.Basics.{basics}
+use Rattle.atom_simplifier.proofs.Basics.{basics}
 use Rattle.report_lines.proofs.line.refused_line.Statement.{statement}
 use Rattle.report_lines.proofs.line.refused_line.Tie as tie
 
