@@ -2,7 +2,8 @@
 -- Assumes nothing.
 use mathlib.Core.Path.{_≡_, sym, ap, _∙_}
 use Prim.Native.Nat.{ℕ, _+_, _-_, _*_, _/_, _%_, _^_, _≤_, _<_}
-use native.Mathlib.Nat.{add-mod-mod, min-eq-left, mod-eq-of-lt, sub-add-cancel, mul-add-mod-self-right, lt-of-le-of-lt}
+use native.Mathlib.Nat.{add-mod-mod, min-eq-left, min-eq-right, mod-eq-of-lt, lt-of-lt-of-le, sub-add-cancel, mul-add-mod-self-right, lt-of-le-of-lt}
+use native.Mathlib.Decide.{decLe}
 use native.Mathlib.Omega.{arith}
 use lib.Pow.{pow-mono, not-mod, high-ones, shr-le}
 use Rattle.arith.specs.Arith.{bitmaskOf, modAdd, modSub, modMul, modNeg, modNot, modShr, lowBits}
@@ -41,3 +42,13 @@ module _ (w : ℕ) (l : w ≤ 64) where
 
   pub shr-is : {a : ℕ} (k : ℕ) → a < 2 ^ w → modShr a k w ≡ bvlshr w a k
   shr-is {a} k h = low-is (a / 2 ^ k) ∙ mod-eq-of-lt (lt-of-le-of-lt (shr-le a k) h) ∙ sym (lshr-is w k h)
+
+-- a word's low bits, at every width: from 64 up they are the whole word
+pub low-word : (w n : ℕ) → n < 2 ^ 64 → lowBits n w ≡ n % 2 ^ w
+low-word w n h = go (decLe w 64)
+  where
+    go : Dec (w ≤ 64) → lowBits n w ≡ n % 2 ^ w
+    go (yes l) = low-is w l n
+    go (no l) =
+        let g : 64 ≤ w = omega arith in
+        ap (λ (k : ℕ). n % 2 ^ k) (min-eq-right g) ∙ mod-eq-of-lt h ∙ sym (mod-eq-of-lt (lt-of-lt-of-le h (pow-mono g)))

@@ -37,11 +37,14 @@ first-keeps w σ = at-first w (value-rises w σ)
 
 occurrences-add : (i : ℕ) → Adds (occurrences i)
 unfolding occurrences
-occurrences-add i = record { in-constant = λ c. refl; in-unary = λ k t. le-refl (occurrences i t); in-kind = λ k. 0; in-binary = λ k l r. omega arith }
+occurrences-add i = record { in-constant = λ c t. omega arith; in-unary = λ k t. le-refl (occurrences i t); in-kind = λ k. 0; in-binary = λ k l r. omega arith }
+
+pub cut-variables : (i : ℕ) {t u : Expr} → u ⊑ t → occurrences i u ≤ occurrences i t
+cut-variables i h = cut-counts (occurrences i) (occurrences-add i) h
 
 change-variables : (i : ℕ) {t u : Expr} → Change t u → occurrences i u ≤ occurrences i t
 unfolding occurrences
-change-variables i (less h) = cut-counts (occurrences i) (occurrences-add i) (h .cut)
+change-variables i (less h) = cut-variables i (h .cut)
 change-variables i (turned-over (over d h)) = omega arith
 
 pub local-variables : (w : ℕ) (t u : Expr) → localRewrite w t ≡ some u → (i : ℕ) → occurrences i u ≤ occurrences i t
@@ -128,6 +131,9 @@ module _ {f : Expr → Bool} {one : Unary → Bool} {two : Binary → Bool} (p :
 uniform-everywhere : (widths : List ℕ) (v : ℕ) → Everywhere (isUniformWidth widths v) unaryKeeps binaryKeeps
 unfolding isUniformWidth
 uniform-everywhere widths v = record { in-constant = λ c. refl; in-unary = λ k t. refl; in-binary = λ k l r. refl; not-passes = refl; and-passes = refl; or-passes = refl }
+
+pub cut-uniform : (widths : List ℕ) (v : ℕ) {t u : Expr} → u ⊑ t → isUniformWidth widths v t ≡ true → isUniformWidth widths v u ≡ true
+cut-uniform widths v = cut-everywhere (uniform-everywhere widths v)
 
 operands-everywhere : Everywhere operandsOk (λ k. operandOk (unaryNumber k) (unaryOperand k)) (λ k. true)
 unfolding operandsOk operandOk

@@ -1,6 +1,8 @@
 pub mod Optional
 pub mod AtomSimplifier
 pub mod Measures
+pub mod AtomIdentityRewrite
+pub mod CandidateClaims
 pub mod Chain
 pub mod OptionalLaws
 pub mod TestLaws
@@ -10,6 +12,9 @@ pub mod ShapeLaws
 pub mod SiteLaws
 pub mod MeasureLaws
 pub mod KeptLaws
+pub mod MatchLaws
+pub mod IdentityLaws
+pub mod CandidateLaws
 pub mod EndLaws
 pub mod NodesLaws
 pub mod ChainLaws

@@ -6,7 +6,7 @@ use Prim.Native.Nat.{ℕ, _+_, _*_, _≤_, _<_}
 use native.Mathlib.Nat.{le-refl}
 use native.Mathlib.Omega.{arith}
 use Rattle.expr.specs.Expr.{Unary, Not, Neg, Shr, ZExt, SExt, Trunc, Binary, Add, Mul, And, Or, Xor, Concat, Expr, leaf, unary, binary, nodes, depth}
-use Rattle.expr.specs.ExprLaws.{depth-pos}
+use Rattle.expr.specs.ExprLaws.{nodes-pos, depth-pos}
 use Rattle.rewriting.specs.AtomSimplifier.{localRewrite, firstRewrite}
 use Rattle.rewriting.specs.Measures.{andOr, andOrs, pairs, D}
 use Rattle.rewriting.specs.ShapeLaws.{_⊑_, to-constant, as-it-is, child, left, right, both, swapped, in-turn, Less, Dual, and-or, or-and, DeMorgan, over, Change, less, turned-over, Adds, cut-counts, local-change}
@@ -16,13 +16,20 @@ use Rattle.rewriting.specs.SiteLaws.{Rises, at-first}
 
 and-ors-add : Adds andOrs
 unfolding andOrs
-and-ors-add = record { in-constant = λ c. refl; in-unary = λ k t. le-refl (andOrs t); in-kind = andOr; in-binary = λ k l r. refl }
+and-ors-add = record { in-constant = λ c t. omega arith; in-unary = λ k t. le-refl (andOrs t); in-kind = andOr; in-binary = λ k l r. refl }
 
 D-adds : Adds D
 unfolding D
-D-adds = record { in-constant = λ c. refl; in-unary = λ k t. omega arith; in-kind = λ k. 0; in-binary = λ k l r. omega arith }
+D-adds = record { in-constant = λ c t. omega arith; in-unary = λ k t. omega arith; in-kind = λ k. 0; in-binary = λ k l r. omega arith }
 
-cut-depth : {t u : Expr} → u ⊑ t → depth u ≤ depth t
+nodes-add : Adds nodes
+unfolding nodes
+nodes-add = record { in-constant = λ c t. nodes-pos t; in-unary = λ k t. omega arith; in-kind = λ k. 1; in-binary = λ k l r. omega arith }
+
+pub cut-nodes : {t u : Expr} → u ⊑ t → nodes u ≤ nodes t
+cut-nodes h = cut-counts nodes nodes-add h
+
+pub cut-depth : {t u : Expr} → u ⊑ t → depth u ≤ depth t
 unfolding depth
 cut-depth (to-constant {c} {t}) = depth-pos t
 cut-depth as-it-is = omega arith

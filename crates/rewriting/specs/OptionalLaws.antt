@@ -1,6 +1,6 @@
 -- What holds of every arm of a choice holds of the choice: by these laws a theorem goes through a definition arm by arm. Assumes nothing.
-use mathlib.Core.Path.{_≡_, refl, sym, subst, _∙_}
-use mathlib.Core.Bool.{Bool, true, false}
+use mathlib.Core.Path.{_≡_, refl, sym, ap, subst, _∙_}
+use mathlib.Core.Bool.{Bool, true, false, not}
 use mathlib.Core.Option.{Option, none, some}
 use lib.Dec.{T}
 use Rattle.arith.specs.Choice.{if_then_else_}
@@ -24,6 +24,10 @@ module _ {A : Type 0} (P : A → Type 0) where
   every-onlyIf true f = f tt
   every-onlyIf false f = tt
 
+  pub every-unless : (b : Bool) (o : Option A) → (T (not b) → Every P o) → Every P (if b then none else o)
+  every-unless true o f = tt
+  every-unless false o f = f tt
+
   pub every-orElse : (o b : Option A) → Every P o → Every P b → Every P (o orElse b)
   every-orElse none b f g = g
   every-orElse (some a) b f g = f
@@ -44,6 +48,22 @@ module _ {A : Type 0} (o : Option A) {a : A} where
   pub only-one : {b : A} → o ≡ some a → o ≡ some b → a ≡ b
   only-one e f = cc
 
+module _ {A B : Type 0} (o : Option A) (f : A → Option B) where
+  pub then-none : o ≡ none → (o andThen f) ≡ none
+  then-none e = ap (λ (q : Option A). q andThen f) e
+
+  pub then-some : {a : A} → o ≡ some a → (o andThen f) ≡ f a
+  then-some e = ap (λ (q : Option A). q andThen f) e
+
+-- f answers nothing
+pub then-never : {A B : Type 0} (o : Option A) (f : A → Option B) → ((a : A) → f a ≡ none) → (o andThen f) ≡ none
+then-never none f h = refl
+then-never (some a) f h = h a
+
+pub else-none : {A : Type 0} (o b : Option A) → b ≡ none → (o orElse b) ≡ o
+else-none none b e = e
+else-none (some a) b e = refl
+
 module _ {A B : Type 0} (f : A → B) where
   -- nothing is there
   pub map-none : (o : Option A) → map f o ≡ none → o ≡ none
@@ -62,6 +82,15 @@ module _ {A B : Type 0} (P : B → Type 0) where
   pub every-andThen : (o : Option A) (f : A → Option B) → ((a : A) → o ≡ some a → Every P (f a)) → Every P (o andThen f)
   every-andThen none f h = tt
   every-andThen (some a) f h = h a refl
+
+  -- the same, where Q is known of what is there
+  pub every-map-on : (Q : A → Type 0) (o : Option A) {f : A → B} → Every Q o → ((a : A) → Q a → P (f a)) → Every P (map f o)
+  every-map-on Q none q h = tt
+  every-map-on Q (some a) q h = h a q
+
+  pub every-andThen-on : (Q : A → Type 0) (o : Option A) (f : A → Option B) → Every Q o → ((a : A) → Q a → Every P (f a)) → Every P (o andThen f)
+  every-andThen-on Q none f q h = tt
+  every-andThen-on Q (some a) f q h = h a q
 
 -- both are there and P holds of the two, or neither is there
 abbrev pub Both : {A B : Type 0} → (A → B → Type 0) → Option A → Option B → Type 0

@@ -49,16 +49,17 @@ pub data Change (t u : Expr) : Type 0 where
 
 -- ---- a count of a tree that is cut down
 
--- f counts nothing in a constant, and in a node at least what it counts in the children: with two, their sum and a number for the kind
+-- f counts in a constant no more than in any tree, and in a node at least what it counts in the children: with two, their sum and a number
+-- for the kind
 pub record Adds (f : Expr → ℕ) : Type 0 where
-  pub in-constant : (c : ℕ) → f (constant c) ≡ 0
+  pub in-constant : (c : ℕ) (t : Expr) → f (constant c) ≤ f t
   pub in-unary : (k : Unary) (t : Expr) → f t ≤ f (unary k t)
   pub in-kind : Binary → ℕ
   pub in-binary : (k : Binary) (l r : Expr) → f (binary k l r) ≡ in-kind k + f l + f r
 
 module _ (f : Expr → ℕ) (a : Adds f) where
   pub cut-counts : {t u : Expr} → u ⊑ t → f u ≤ f t
-  cut-counts (to-constant {c} {t}) = omega (arith, a .in-constant c)
+  cut-counts (to-constant {c} {t}) = a .in-constant c t
   cut-counts as-it-is = omega arith
   cut-counts (child {k} {t}) = a .in-unary k t
   cut-counts (left {k} {l} {r}) = omega (arith, a .in-binary k l r)
