@@ -1,12 +1,15 @@
 // Trees as words, after expr.rs and expr_utils.rs. A node is a kind word and an operand word; the words of its children follow, from
 // left to right. A child is passed on as the part of the caller's slice where its words begin.
 ghost use mathlib.Core.Path.{_≡_};
+ghost use Prim.Native.Nat.{min};
+ghost use lib.ListN.{length, take};
 ghost use Rattle.expr.specs.Expr.{Expr, encode, nodes};
 ghost use Rattle.expr.specs.ExprUtils.{hasVarDep, isConstantSubtree};
 ghost use Rattle.expr.specs.Outcome.{mapped};
 ghost use Rattle.expr.specs.Parse.{arity, arityOf, operandOk, nodeKind, subtree, wordCountOk, parse};
 ghost use Rattle.expr.specs.Span.{spanOf};
 ghost use Rattle.expr.specs.SameWords.{sameWords};
+ghost use Rattle.expr.specs.Lent.{over};
 ghost use Rattle.expr.specs.Answers.{arityOutcome, countedOutcome, verdictOutcome};
 
 pub mod kind;
@@ -177,6 +180,27 @@ pub fn same_words(a: &[u64], b: &[u64]) -> bool
         i += 1;
     }
     true
+}
+
+fn shorter(a: usize, b: usize) -> usize
+    ensures { λ r. ⌜ r ≡ min a b ⌝ }
+{
+    if a < b {
+        return a;
+    }
+    b
+}
+
+// Copies words to the front of `out`, as many as it has room for.
+pub fn copy_words(words: &[u64], out: &mut [u64])
+    ensures { λ r. ⌜ now (out .exit) ≡ over (take (length (now (out .entry))) (now (words .entry))) (now (out .entry)) ⌝ }
+{
+    let n = shorter(words.len(), out.len());
+    let mut i = 0;
+    while i < n {
+        out[i] = words[i];
+        i += 1;
+    }
 }
 
 // Whether one of a tree's nodes is a Variable: its kind words stand at the even places.

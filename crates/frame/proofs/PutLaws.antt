@@ -28,8 +28,8 @@ use Rattle.hex.specs.Nodes.{nodesText}
 use Rattle.hex.specs.NodesLaws.{length-nodes}
 use Rattle.frame.specs.Frame.{frame, withBytes, writeFrame}
 use Rattle.frame.specs.Answers.{left}
-use Rattle.frame.specs.Contracts.{checked}
-use Rattle.frame.proofs.CheckLaws.{checked-then, Tree, checked-tree}
+use Rattle.width.specs.Checked.{checked}
+use Rattle.width.specs.CheckedLaws.{checked-then, Tree, checked-tree}
 
 -- ---- `put_frame`
 

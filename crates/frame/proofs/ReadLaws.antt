@@ -30,11 +30,12 @@ use Rattle.hex.specs.Hex.{allDigits, numberOf}
 use Rattle.hex.specs.HexLaws.{all-append, number-below, number-whole}
 use Rattle.hex.specs.Nodes.{wordsOf}
 use Rattle.hex.specs.NodesLaws.{length-words}
-use Rattle.frame.specs.Frame.{nodesIn, lineWords, unended, withWords, framed, readFrame}
+use Rattle.frame.specs.Frame.{nodesIn, lineWords, unended, framed, readFrame}
 use Rattle.frame.specs.FrameLaws.{bytes-of-nodes, line-read, unended-last}
 use Rattle.frame.specs.Answers.{readOutcome, left}
-use Rattle.frame.specs.Contracts.{checked, readLine, Ends, Decodes, Reads}
-use Rattle.frame.proofs.CheckLaws.{checked-then, Tree, checked-tree}
+use Rattle.frame.specs.Contracts.{readLine, Ends, Decodes, Reads}
+use Rattle.width.specs.Checked.{checked, withWords}
+use Rattle.width.specs.CheckedLaws.{checked-then, Tree, checked-tree}
 use Rattle.frame.specs.declared.Line.{Line}
 use Rattle.frame.specs.declared.FrameRead.{FrameRead}
 use Rattle.frame.specs.declared.FrameRead.the-variants as read
@@ -148,45 +149,6 @@ module _ (line : List ℕ) (n : ℕ) (e : n ≡ nodesIn (length line)) where
 
 pub ruleset decoding = (none-decoded, width-there, count-fits, width-fits, bad-digit, decoded)
 
--- ---- `copy`
-
--- after i turns the first i words are copied
-pub record Copying (words before after : List ℕ) (i : ℕ) : Type 0 where
-  pub is : after ≡ paste before 0 words i
-  pub turn : i ≤ length words
-  pub long : length after ≡ length before
-
-pub none-copied : (words before : List ℕ) → Copying words before before 0
-none-copied words before = record { is = paste-zero before 0 words; turn = omega arith; long = refl }
-
-module _ (words before : List ℕ) (fits : length words ≤ length before) (after : List ℕ) (i : ℕ) (c : Copying words before after i) where
-  pub copy-inside : i < length words → i < length after
-  copy-inside h = omega (arith, c .long)
-
-  pub one-copied : i < length words → Copying words before (set after i (getD words i 0)) (i + 1)
-  one-copied h =
-      let z : 0 + i ≡ i = omega arith in
-      let s : suc i ≡ i + 1 = omega arith in
-      record {
-        is =
-            ap₂ (λ (l : List ℕ) (j : ℕ). set l j (getD words i 0)) (c .is) (sym z)
-            ∙ paste-suc before 0 words i 0 (omega arith) h
-            ∙ ap (paste before 0 words) s;
-        turn = omega arith;
-        long = length-set after i (getD words i 0) ∙ c .long;
-      }
-
-  pub all-copied : length words ≤ i → Laid before after words
-  all-copied h =
-      let e : i ≡ length words = omega (arith, c .turn) in
-      let z : 0 + length words ≡ length words = omega arith in
-      record { is = c .is ∙ ap (paste before 0 words) e ∙ ap₂ (λ (l : List ℕ) (j : ℕ). l ++ drop j before) (take-all (length words) words (omega arith)) z }
-
-  pub copied-long : length after ≡ length before
-  copied-long = c .long
-
-pub ruleset copying = (none-copied, copy-inside, one-copied, all-copied, copied-long)
-
 -- ---- `hand_over`
 
 abbrev atWidth : ℕ → Expr → Outcome (ℕ × Expr)
@@ -223,17 +185,17 @@ module _ (w : ℕ) (ws : List ℕ) (x : Counted) (h : countedOutcome x ≡ mappe
         (roomed ∙ rw (lt-ltb (length before) (2 * nodes (found .tree)) (omega (arith, found .count))))
 
     module _ (l : 2 * n ≤ length before) where
-      pub copy-fits : length ws ≤ length before
-      copy-fits = omega (arith, ap length (found .words), length-encode (found .tree), found .count)
+      fits : length ws ≤ length before
+      fits = omega (arith, ap length (found .words), length-encode (found .tree), found .count)
 
-      pub handed : (after : List ℕ) → Laid before after ws → Reads (framed (length before) (w, ws)) (read.Frame w n) before after
+      pub handed : (after : List ℕ) → after ≡ over (take (length before) ws) before → Reads (framed (length before) (w, ws)) (read.Frame w n) before after
       unfolding withWords
       handed after m =
           let e : framed (length before) (w, ws) ≡ accepted (w, found .tree) = roomed ∙ rw (le-ltb (length before) (2 * nodes (found .tree)) (omega (arith, found .count))) in
           subst (λ (o : Outcome (ℕ × Expr)). Reads o (read.Frame w n) before after) (sym e)
-          (record { answer = ap (λ (i : ℕ). accepted (w, i)) (sym (found .count)); memory = m .is ∙ ap (λ (vs : List ℕ). over vs before) (found .words) })
+          (record { answer = ap (λ (i : ℕ). accepted (w, i)) (sym (found .count)); memory = m ∙ ap (λ (vs : List ℕ). over vs before) (take-all (length before) ws fits ∙ found .words) })
 
-pub ruleset handing = (check-refused, words-fit, room-refused, copy-fits, handed)
+pub ruleset handing = (check-refused, words-fit, room-refused, handed)
 
 -- ---- `read_by` and `read_frame`
 

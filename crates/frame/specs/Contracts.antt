@@ -16,10 +16,6 @@ use Rattle.frame.specs.Answers.{readOutcome, left}
 use Rattle.frame.specs.declared.Line.{Line}
 use Rattle.frame.specs.declared.FrameRead.{FrameRead}
 
--- the tree that the words are at that width: 1, then 2 to 7
-unfoldable pub checked : ℕ → List ℕ → Outcome Expr
-checked w ws = if supported w then parse ws else refused (refusal 1)
-
 -- a line without its 0a, read with room for so many words
 unfoldable pub readLine : List ℕ → ℕ → Outcome (ℕ × Expr)
 readLine bs room = lineWords bs andThen framed room

@@ -10,6 +10,7 @@ use Rattle.expr.specs.Outcome.{Outcome, refused, accepted, _andThen_}
 use Rattle.expr.specs.Expr.{Expr, encode, nodes}
 use Rattle.expr.specs.Parse.{parse}
 use Rattle.width.specs.Width.{supported}
+use Rattle.width.specs.Checked.{withWords}
 use Rattle.hex.specs.Hex.{digits, allDigits, numberOf}
 use Rattle.hex.specs.Nodes.{nodesText, wordsOf}
 
@@ -45,10 +46,6 @@ unfoldable pub unended : List ℕ → List ℕ
 unended [] = []
 unended (b ∷ []) = if eqb b 10 then [] else b ∷ []
 unended (b ∷ c ∷ bs) = b ∷ unended (c ∷ bs)
-
--- 9 where so many words have no room for the tree's
-unfoldable pub withWords : ℕ → Expr → Outcome Expr
-withWords room t = if ltb room (2 * nodes t) then refused (refusal 9) else accepted t
 
 -- the tree that the words are at that width: 1, then 2 to 7, of which 2 cannot occur, then 9
 unfoldable pub framed : ℕ → ℕ × List ℕ → Outcome (ℕ × Expr)

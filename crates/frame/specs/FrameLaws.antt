@@ -28,7 +28,8 @@ use Rattle.hex.specs.HexLaws.{all-append, all-take, all-drop, all-digits, lengt
 use Rattle.hex.specs.Nodes.{nodesText, wordsOf}
 use Rattle.hex.specs.NodesLaws.{NodeWords, next, length-nodes, length-words, all-nodes, words-nodes, nodes-words}
 use Rattle.hex.specs.NodesLaws as hex
-use Rattle.frame.specs.Frame.{frame, nodesIn, lineWords, unended, withWords, framed, readFrame}
+use Rattle.width.specs.Checked.{withWords}
+use Rattle.frame.specs.Frame.{frame, nodesIn, lineWords, unended, framed, readFrame}
 
 -- ---- how long frames are
 

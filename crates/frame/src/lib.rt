@@ -11,7 +11,7 @@ ghost use Rattle.hex.specs.Hex.{digits};
 ghost use Rattle.hex.specs.Nodes.{nodesText};
 ghost use Rattle.frame.specs.Frame.{frame, nodesIn, framed, writeFrame, readFrame};
 ghost use Rattle.frame.specs.Answers.{readOutcome, writtenOutcome, left};
-ghost use Rattle.frame.specs.Contracts.{checked, readLine, Ends, Decodes, Reads};
+ghost use Rattle.frame.specs.Contracts.{readLine, Ends, Decodes, Reads};
 use expr::Counted;
 use expr::refusal::Refusal;
 
@@ -41,16 +41,6 @@ pub fn nodes_in(bytes: usize) -> usize
         bytes / 18
     } else {
         0
-    }
-}
-
-// The nodes of a tree at a supported width, or the refusal: 1, then 2 to 7.
-fn check(words: &[u64], width: u32) -> Counted
-    ensures { λ r. ⌜ countedOutcome r ≡ mapped nodes (checked width (now (words .entry))) ⌝ }
-{
-    match width {
-        1..=64 => expr::check_tree(words),
-        _ => Counted::Refused(Refusal::WidthOutOfRange),
     }
 }
 
@@ -88,28 +78,16 @@ fn read_line(line: &[u8], words: &mut [u64]) -> Line
     }
 }
 
-// Puts the words at the front of `out`.
-fn copy(words: &[u64], out: &mut [u64])
-    requires { ⌜ length (now words) ≤ length (now out) ⌝ }
-    ensures { λ r. ⌜ Laid (now (out .entry)) (now (out .exit)) (now (words .entry)) ⌝ }
-{
-    let mut i = 0;
-    while i < words.len() {
-        out[i] = words[i];
-        i += 1;
-    }
-}
-
 // Hands the tree that the words are over to `out`, once nothing is to be refused.
 fn hand_over(words: &[u64], width: u32, out: &mut [u64]) -> FrameRead
     ensures { λ r. ⌜ Reads (framed (length (now (out .entry))) (width, now (words .entry))) r (now (out .entry)) (now (out .exit)) ⌝ }
 {
-    match check(words, width) {
+    match width::check_tree_at(words, width) {
         Counted::Refused(r) => FrameRead::Refused(r),
         Counted::Count(nodes) => {
             let count = 2 * nodes;
             if count <= out.len() {
-                copy(words, out);
+                expr::copy_words(words, out);
                 return FrameRead::Frame(width, nodes);
             }
             FrameRead::Refused(Refusal::OutputTooSmall)
@@ -165,7 +143,7 @@ pub fn write_frame(words: &[u64], width: u32, out: &mut [u8]) -> FrameWritten
     ensures { λ r. ⌜ writtenOutcome r ≡ mapped (λ t. 3 + 18 * nodes t) (writeFrame (now (words .entry)) width (length (now (out .entry)))) ⌝ }
     ensures { λ r. ⌜ now (out .exit) ≡ left (frame width) (writeFrame (now (words .entry)) width (length (now (out .entry)))) (now (out .entry)) ⌝ }
 {
-    match check(words, width) {
+    match width::check_tree_at(words, width) {
         Counted::Refused(r) => FrameWritten::Refused(r),
         Counted::Count(nodes) => {
             let bytes = 3 + 18 * nodes;

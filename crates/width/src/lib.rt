@@ -5,12 +5,13 @@ ghost use mathlib.Core.Bool.{_&&_};
 ghost use mathlib.Core.List.{List};
 ghost use Prim.Native.Nat.{ℕ};
 ghost use lib.ListN.{getD};
-ghost use Rattle.expr.specs.Expr.{Leaf, Unary, Binary, Concat, Expr, leaf, unary, binary, leafNumber, leafOperand, unaryNumber, unaryOperand, binaryNumber};
+ghost use Rattle.expr.specs.Expr.{Leaf, Unary, Binary, Concat, Expr, leaf, unary, binary, leafNumber, leafOperand, unaryNumber, unaryOperand, binaryNumber, nodes};
 ghost use Rattle.expr.specs.Outcome.{accepted, mapped, _andThen_};
 ghost use Rattle.expr.specs.Parse.{parse};
-ghost use Rattle.expr.specs.Answers.{verdictOutcome};
+ghost use Rattle.expr.specs.Answers.{countedOutcome, verdictOutcome};
 ghost use Rattle.expr.specs.Front.{Starts, Read, Gives};
 ghost use Rattle.width.specs.Width.{supported, ranged, unaryWidth, binaryWidth, checkedWidthOf, widthOf, unaryRule, binaryRule, validateWidths, unaryKeeps, binaryKeeps, isUniformWidth};
+ghost use Rattle.width.specs.Checked.{checked};
 ghost use Rattle.width.specs.Answers.{widthOutcome, validityOutcome};
 ghost use Rattle.width.specs.Contracts.{First, FirstOfThree, OwnWidthFirst, WidthsOf};
 use expr::Arity;
@@ -377,5 +378,15 @@ pub fn is_uniform_width(words: &[u64], var_widths: &[u32], w: u32) -> Verdict
             let read = uniform_at(words, var_widths, w);
             Verdict::Known(read.uniform)
         }
+    }
+}
+
+// The nodes of a tree at a supported width, or the refusal: 1, then 2 to 7.
+pub fn check_tree_at(words: &[u64], width: u32) -> Counted
+    ensures { λ r. ⌜ countedOutcome r ≡ mapped nodes (checked width (now (words .entry))) ⌝ }
+{
+    match width {
+        1..=64 => expr::check_tree(words),
+        _ => Counted::Refused(Refusal::WidthOutOfRange),
     }
 }

@@ -1,8 +1,8 @@
--- Words that are checked at a width. Assumes nothing.
+-- What follows a check at a width. Assumes nothing.
 use mathlib.Core.Path.{_≡_, refl, sym, ap, _∙_}
 use mathlib.Core.Bool.{Bool, true, false}
 use mathlib.Core.List.{List}
-use Prim.Native.Nat.{ℕ, _≤_, _<_}
+use Prim.Native.Nat.{ℕ, _≤_}
 use native.Mathlib.Omega.{arith}
 use Rattle.arith.specs.Choice.{if_then_else_}
 use Rattle.expr.specs.declared.Counted.{Counted}
@@ -14,30 +14,8 @@ use Rattle.expr.specs.Expr.{Expr, encode, nodes}
 use Rattle.expr.specs.Parse.{parse}
 use Rattle.expr.specs.ParseLaws.{parse-sound}
 use Rattle.expr.specs.Answers.{countedOutcome}
 use Rattle.width.specs.Width.{supported}
-use Rattle.width.specs.WidthLaws.{in-range, too-narrow, too-wide}
-use Rattle.frame.specs.Contracts.{checked}
-
--- ---- `check`
-
-module _ (w : ℕ) (ws : List ℕ) where
-  refused-1 : supported w ≡ false → refused (refusal 1) ≡ mapped nodes (checked w ws)
-  unfolding checked
-  refused-1 e = rw e
-
-  pub narrow-refused : w < 1 → refused (refusal 1) ≡ mapped nodes (checked w ws)
-  narrow-refused h = refused-1 (sym (too-narrow w h))
-
-  pub wide-refused : 1 ≤ w → 65 ≤ w → refused (refusal 1) ≡ mapped nodes (checked w ws)
-  wide-refused p h = refused-1 (sym (too-wide w p h))
-
-  pub words-checked : 1 ≤ w → w < 65 → (x : Counted) → countedOutcome x ≡ mapped nodes (parse ws) → countedOutcome x ≡ mapped nodes (checked w ws)
-  unfolding checked
-  words-checked p q x e = rw (sym (in-range w p q)) e
-
-pub ruleset checking = (narrow-refused, wide-refused, words-checked)
-
--- ---- what follows a check
+use Rattle.width.specs.Checked.{checked}
 
 -- a refusal of the width stays, whatever is made of the tree
 pub checked-then : {B : Type 0} (w : ℕ) (ws : List ℕ) (f : Outcome Expr → Outcome B) → f (refused (refusal 1)) ≡ refused (refusal 1)
@@ -49,7 +27,7 @@ checked-then w ws f e = go (supported w)
     go true = refl
     go false = sym e
 
-checked-parse : (w : ℕ) (ws : List ℕ) (t : Expr) → checked w ws ≡ accepted t → parse ws ≡ accepted t
+pub checked-parse : (w : ℕ) (ws : List ℕ) (t : Expr) → checked w ws ≡ accepted t → parse ws ≡ accepted t
 unfolding checked
 checked-parse w ws t = go (supported w)
   where
