@@ -1,0 +1,17 @@
+pub mod Basics
+pub mod StandLaws
+pub mod NodeLaws
+pub mod OrLaws
+pub mod MatcherLaws
+pub mod FillLaws
+pub mod ScanLaws
+pub mod LocalLaws
+pub mod AddendLaws
+pub mod WalkLaws
+pub mod HeldLaws
+pub mod OfferLaws
+pub mod SortLaws
+pub mod RoleLaws
+pub mod ReadLaws
+pub mod WriteLaws
+pub mod CallLaws

@@ -1,0 +1,19 @@
+-- `atom_identity_rewrite::admit` meets its contract. Assumes nothing.
+use Rattle.atom_identity_rewrite.proofs.Basics.{basics}
+use Rattle.atom_identity_rewrite.proofs.CallLaws.{admitting}
+use Rattle.atom_identity_rewrite.proofs.admit.Statement.{statement}
+use Rattle.atom_identity_rewrite.proofs.admit.Tie as tie
+
+ruleset rules = (basics, admitting)
+
+pub admit-spec : {M : Type 1} → statement M
+admit-spec =
+    tie.close
+    (tie.spec
+    (λ c κs. search rules)
+    (λ c. search rules)
+    (λ c. search rules)
+    (λ c. search rules)
+    (λ c. search rules)
+    (λ c. search rules)
+    (λ c. search rules))

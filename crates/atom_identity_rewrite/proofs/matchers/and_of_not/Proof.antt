@@ -1,0 +1,17 @@
+-- `atom_identity_rewrite::matchers::and_of_not` meets its contract. Assumes nothing.
+use Rattle.atom_identity_rewrite.proofs.Basics.{basics}
+use Rattle.atom_identity_rewrite.proofs.MatcherLaws.{notSides}
+use Rattle.atom_identity_rewrite.proofs.matchers.and_of_not.Statement.{statement}
+use Rattle.atom_identity_rewrite.proofs.matchers.and_of_not.Tie as tie
+
+ruleset rules = (basics, notSides)
+
+pub and-of-not-spec : {M : Type 1} → statement M
+and-of-not-spec =
+    tie.close
+    (tie.spec
+    (λ c. search rules)
+    (λ c. search rules)
+    (λ c. search rules)
+    (λ c κs. search rules)
+    (λ c. search rules))

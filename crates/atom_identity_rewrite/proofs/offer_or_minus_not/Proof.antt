@@ -1,0 +1,15 @@
+-- `atom_identity_rewrite::offer_or_minus_not` meets its contract. Assumes nothing.
+use Rattle.atom_identity_rewrite.proofs.Basics.{basics}
+use Rattle.atom_identity_rewrite.proofs.CallLaws.{rooted}
+use Rattle.atom_identity_rewrite.proofs.offer_or_minus_not.Statement.{statement}
+use Rattle.atom_identity_rewrite.proofs.offer_or_minus_not.Tie as tie
+
+ruleset rules = (basics, rooted)
+
+pub offer-or-minus-not-spec : {M : Type 1} → statement M
+offer-or-minus-not-spec =
+    tie.close
+    (tie.spec
+    (λ c κs. search rules)
+    (λ c κs. search rules)
+    (λ c. search rules))

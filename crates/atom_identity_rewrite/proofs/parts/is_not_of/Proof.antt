@@ -1,0 +1,18 @@
+-- `atom_identity_rewrite::parts::is_not_of` meets its contract. Assumes nothing.
+use Rattle.atom_identity_rewrite.proofs.Basics.{basics}
+use Rattle.atom_identity_rewrite.proofs.NodeLaws.{nodes}
+use Rattle.atom_identity_rewrite.proofs.parts.is_not_of.Statement.{statement}
+use Rattle.atom_identity_rewrite.proofs.parts.is_not_of.Tie as tie
+
+ruleset rules = (basics, nodes)
+
+pub is-not-of-spec : {M : Type 1} → statement M
+is-not-of-spec =
+    tie.close
+    (tie.spec
+    (λ c. search rules)
+    (λ c. search rules)
+    (λ c. search rules)
+    (λ c κs. search rules)
+    (λ c κs. search rules)
+    (λ c. search rules))
