@@ -14,7 +14,10 @@ const CORE: [&str; 6] = [
     "width",
     "result",
 ];
-const PASSES: [&str; 1] = ["atom_simplifier"];
+const PASSES: [&str; 2] = ["atom_simplifier", "atom_identity_rewrite"];
+/// Stand in for what was not published or is left out.
+const CORE_STUBS: [&str; 4] = ["compiled", "evaluator", "pass_contract", "spot_check"];
+const PASSES_STUBS: [&str; 2] = ["candidate_normalize", "classifier"];
 
 fn main() {
     let here = PathBuf::from(env::var("CARGO_MANIFEST_DIR").unwrap());
@@ -28,16 +31,13 @@ fn main() {
     println!("cargo:rerun-if-env-changed=COBRA_SRC");
     println!("cargo:rerun-if-changed=build.rs");
 
-    let mut core = module("compiled", &here.join("src/stubs/compiled.rs"));
+    let mut core = stubs(&CORE_STUBS, &here);
     for name in CORE {
         core += &module(name, &crates.join(format!("cobra-core/src/{name}.rs")));
     }
     fs::write(out.join("core.rs"), core).unwrap();
 
-    let mut passes = module(
-        "candidate_normalize",
-        &here.join("src/stubs/candidate_normalize.rs"),
-    );
+    let mut passes = stubs(&PASSES_STUBS, &here);
     for name in PASSES {
         let copy = out.join(format!("{name}.rs"));
         let original = crates.join(format!("cobra-passes/src/{name}.rs"));
@@ -54,6 +54,11 @@ fn main() {
 fn module(name: &str, file: &Path) -> String {
     println!("cargo:rerun-if-changed={}", file.display());
     format!("#[path = {file:?}]\npub mod {name};\n")
+}
+
+fn stubs(names: &[&str], here: &Path) -> String {
+    let one = |name: &&str| module(name, &here.join(format!("src/stubs/{name}.rs")));
+    names.iter().map(one).collect()
 }
 
 fn with_access(original: &Path, access: &Path, copy: &Path) {

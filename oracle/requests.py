@@ -1,10 +1,10 @@
 #!/usr/bin/env python3
-"""Prints the requests of a test program, replay, replay_rewrites or replay_chain, or the table of report, the same at every run."""
+"""Prints the requests of a test program (`programs` below), or the table of report, the same at every run."""
 import sys
 
 sys.dont_write_bytecode = True  # the repository stays as it is
 
-from lists import arithmetic, chains, costs, readme, refusals, rewrites, tables, trees, values, widths
+from lists import arithmetic, candidates, chains, costs, readme, refusals, rewrites, tables, trees, values, widths
 from lists.common import Random
 
 
@@ -30,7 +30,12 @@ def of_replay_chain():
     return chains.requests(Random)
 
 
-programs = {"replay": of_replay, "replay_rewrites": of_replay_rewrites, "replay_chain": of_replay_chain}
+def of_replay_candidates():
+    return candidates.requests(Random)
+
+
+programs = {"replay": of_replay, "replay_rewrites": of_replay_rewrites, "replay_chain": of_replay_chain,
+            "replay_candidates": of_replay_candidates}
 if sys.argv[1] == "report":
     sys.stdout.buffer.write(tables.stored(Random))
 else:

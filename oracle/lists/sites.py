@@ -114,19 +114,22 @@ def put_in(rng, words, site):
     return words[:at] + site + words[at + 2:]
 
 
-def near(rng, words, width):
-    """The same tree, but for one node: a leaf's operand, two kinds of a number of children exchanged, or a constant's bit above."""
-    at = rng.pick([rng.pick(spans(words))[0], spans(words)[-1][0], 0])
-    kind, operand = words[at], words[at + 1]
+def other_node(rng, node, width):
+    """Another node of as many children: of a constant a bit is changed, below the width or above it."""
+    kind, operand = node
     if kind == 0:
-        node = [0, operand ^ 1 << rng.pick([0, width % 64, 63])]
-    elif kind in WITH_NUMBER:
-        node = [kind, operand ^ 1 << rng.below(3)]
-    elif kind in (7, 8):
-        node = [15 - kind, 0]
-    else:
-        node = [{2: 3, 3: 2, 4: 5, 5: 6, 6: 4, 13: 2}[kind], 0]
-    return words[:at] + node + words[at + 2:]
+        return [0, operand ^ 1 << rng.pick([0, width % 64, 63])]
+    if kind in WITH_NUMBER:
+        return [kind, operand ^ 1 << rng.below(3)]
+    if kind in (7, 8):
+        return [15 - kind, 0]
+    return [{2: 3, 3: 2, 4: 5, 5: 6, 6: 4, 13: 2}[kind], 0]
+
+
+def near(rng, words, width):
+    """The same tree, but for one node."""
+    at = rng.pick([rng.pick(spans(words))[0], spans(words)[-1][0], 0])
+    return words[:at] + other_node(rng, words[at:at + 2], width) + words[at + 2:]
 
 
 def comb(rng, levels, end):

@@ -4,7 +4,7 @@ use crate::core::{arith, expr_utils};
 use crate::fields::{self, hex, narrow};
 use crate::refusal::{self, Refusal};
 use crate::words;
-use crate::{chain, cost, rewrite, value, width};
+use crate::{candidate, chain, cost, rewrite, value, width};
 
 pub fn answer(request: &str) -> Result<String, String> {
     let mut fields = request.split(' ');
@@ -16,6 +16,7 @@ pub fn answer(request: &str) -> Result<String, String> {
         (_, [numbers]) => of_one_list(name, numbers),
         ("same_words", [left, right]) => Ok(hex(u64::from(same_words(left, right)))),
         ("is_better", [candidate, baseline]) => cost::is_better(candidate, baseline),
+        ("candidate" | "candidate_times", [call, words]) => candidate::answer(name, call, words),
         (_, [call, words]) => rewrite::answer(name, call, words),
         ("chain" | "chain_times" | "chain_loop_times", [call, widths, words]) => {
             chain::answer(name, call, &fields::all_narrow(widths)?, words)

@@ -23,6 +23,7 @@ mod ir {
 mod orchestrator;
 
 mod answer;
+mod candidate;
 mod chain;
 mod cost;
 mod fields;

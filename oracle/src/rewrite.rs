@@ -10,7 +10,7 @@ use std::hint::black_box;
 use std::sync::Arc;
 
 /// The test program has no more room than this, in words and in bytes.
-const MOST_OUT: u64 = 1100;
+pub const MOST_OUT: u64 = 1100;
 const MOST_PATH: u64 = 100;
 /// Enough for every path in a tree of 64 levels.
 const PATH_DUE: u64 = 63;

@@ -60,8 +60,7 @@ pub(crate) fn put_chain(
         ChainAnswer::End(nodes, count) => put_end(text, have, nodes, count, work),
         ChainAnswer::Refused(r) => {
             let named = put_refusal(text, have, r);
-            let parted = put(text, named, b" /");
-            lent::put_words_kept(text, parted, work, 0)
+            lent::put_untouched(text, named, work)
         }
     }
 }

@@ -33,19 +33,6 @@ fn site_times(
     atom_simplifier::find_first_certifiable_atom_rewrite(words, width, path, out)
 }
 
-fn put_rewritten(text: &mut [u8], have: usize, nodes: usize, out: &[u64]) -> usize {
-    let taken = lent::words_of(nodes, out);
-    let counted = put_hex(text, have, nodes as u64);
-    let listed = lent::put_words(text, counted, &out[0..taken]);
-    let parted = put(text, listed, b" /");
-    lent::put_words_kept(text, parted, out, taken)
-}
-
-fn put_words_untouched(text: &mut [u8], have: usize, out: &[u64]) -> usize {
-    let parted = put(text, have, b" /");
-    lent::put_words_kept(text, parted, out, 0)
-}
-
 pub(crate) fn put_local(
     text: &mut [u8],
     have: usize,
@@ -56,14 +43,17 @@ pub(crate) fn put_local(
 ) -> usize {
     lent::mark_words(out);
     match local_times(words, width, times, out) {
-        RewriteAnswer::Rewritten(nodes) => put_rewritten(text, have, nodes, out),
+        RewriteAnswer::Rewritten(nodes) => {
+            let counted = put_hex(text, have, nodes as u64);
+            lent::put_written(text, counted, nodes, out)
+        }
         RewriteAnswer::None => {
             let named = put(text, have, b"none");
-            put_words_untouched(text, named, out)
+            lent::put_untouched(text, named, out)
         }
         RewriteAnswer::Refused(r) => {
             let named = put_refusal(text, have, r);
-            put_words_untouched(text, named, out)
+            lent::put_untouched(text, named, out)
         }
     }
 }

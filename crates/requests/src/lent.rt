@@ -74,3 +74,21 @@ pub fn words_of(nodes: usize, words: &[u64]) -> usize
     }
     2 * nodes
 }
+
+// The words of so many nodes, and whether those behind them hold their marks.
+pub fn put_written(out: &mut [u8], have: usize, nodes: usize, words: &[u64]) -> usize
+    ensures { λ r. ⌜ r ≤ max have (length (now (out .entry))) ⌝ }
+{
+    let taken = words_of(nodes, words);
+    let listed = put_words(out, have, &words[0..taken]);
+    let parted = put(out, listed, b" /");
+    put_words_kept(out, parted, words, taken)
+}
+
+// Whether all words hold their marks.
+pub fn put_untouched(out: &mut [u8], have: usize, words: &[u64]) -> usize
+    ensures { λ r. ⌜ r ≤ max have (length (now (out .entry))) ⌝ }
+{
+    let parted = put(out, have, b" /");
+    put_words_kept(out, parted, words, 0)
+}

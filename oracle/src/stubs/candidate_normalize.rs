@@ -1,4 +1,4 @@
-//! Stands in for `passes::candidate_normalize`, which only `simplify_atom_certified` names. No request calls it.
+//! Stands in for `passes::candidate_normalize`, which only `simplify_atom_certified` and `rewrite_at_site` name. No request calls them.
 use crate::orchestrator::LeanCertificate;
 
 pub fn merge_certificate(
