@@ -142,11 +142,11 @@ fn scan(words: &[u64], list: &[Addend], n: usize, s: Reading) -> Reading
     ensures { λ r. ⌜ Carried (now (words .entry)) (take n (now (list .entry))) s r ⌝ }
 {
     let mut t = s;
-    let mut i = 0;
-    while i < n {
-        let a = list[i];
+    let mut at = 0;
+    while at < n {
+        let a = list[at];
         t = reading::step(words, t, a);
-        i += 1;
+        at += 1;
     }
     t
 }
