@@ -5,7 +5,7 @@ use mathlib.Core.List.{List, [], _∷_, _++_, append-assoc}
 use Prim.Native.Nat.{ℕ, suc, _+_, _*_, _-_, _/_, _%_, _≤_, _<_}
 use native.Mathlib.Nat.{zero-add}
 use native.Mathlib.Omega.{arith}
-use lib.Dec.{T, eqb}
+use lib.Dec.{T}
 use lib.ListN.{length, take, drop, getD, length-append}
 use lib.Seq.{take-at, drop-at, drop-drop}
 use mir.Facts.{and-yes}
@@ -18,7 +18,7 @@ use Rattle.expr.specs.declared.Arity.the-variants.{One, Two}
 use Rattle.expr.specs.declared.Counted.{Counted}
 use Rattle.expr.specs.declared.Counted.the-variants.{Count, Refused}
 use Rattle.expr.specs.Outcome.{accepted}
-use Rattle.expr.specs.Expr.{Unary, Not, Neg, Shr, ZExt, SExt, Trunc, Add, Expr, leaf, unary, binary, unaryNumber, unaryOperand, binaryNumber, encode, nodes}
+use Rattle.expr.specs.Expr.{Neg, Add, Expr, leaf, unary, binary, unaryNumber, unaryOperand, binaryNumber, encode, nodes}
 use Rattle.expr.specs.ExprLaws.{nodes-pos, length-encode}
 use Rattle.expr.specs.Parse.{arityOf, operandOk, operandsOk, wordCountOk}
 use Rattle.expr.specs.Parse as kinds
@@ -33,6 +33,7 @@ use Rattle.expr.specs.Front.{Front, Starts, Whole, treeAt}
 use Rattle.expr.specs.FrontLaws.{UnaryNode, BinaryNode, unary-node, binary-node, has-node, has-kind, child-falls}
 use Rattle.expr.specs.PartLaws.{front-tree, starts-front, exact-front, exact-length}
 use Rattle.rewriting.specs.AtomSimplifier.{sameKind}
+use Rattle.rewriting.specs.MatchLaws.{neg-number}
 use Rattle.rewriting.specs.AtomIdentityRewrite as def
 use Rattle.rewriting.specs.AtomIdentityRewrite.{isNegKind, pushAddend, flattenAddends}
 use Rattle.atom_identity_rewrite.specs.declared.addends.Addend.{Addend}
@@ -80,21 +81,13 @@ few (binary k l r) at s =
 
 -- ---- the node at the front
 
-is-neg-kind : (k : Unary) → isNegKind k ≡ eqb (unaryNumber k) 8
-is-neg-kind Not = refl
-is-neg-kind Neg = refl
-is-neg-kind (Shr k) = refl
-is-neg-kind (ZExt n) = refl
-is-neg-kind (SExt n) = refl
-is-neg-kind (Trunc n) = refl
-
 -- any other node is one addend
 single : (ws : List ℕ) (t : Expr) → Front ws t → (getD ws 0 0 ≡ 2 → ⊥) → (getD ws 0 0 ≡ 8 → ⊥) → (at : ℕ) (s : Bool) → placed t at s ≡ record { start = at; len = length (encode t); negated = s } ∷ []
 unfolding placed encode
 single ws (leaf k) f p q at s = refl
 single ws (unary k t) f p q at s =
     ap (λ (b : Bool). if b then placed t (at + 2) (not s) else record { start = at; len = length (encode (unary k t)); negated = s } ∷ [])
-    (is-neg-kind k ∙ ne-eqb (unaryNumber k) 8 (λ e. q (ap (λ (l : List ℕ). getD l 0 0) (f .words) ∙ e)))
+    (neg-number k ∙ ne-eqb (unaryNumber k) 8 (λ e. q (ap (λ (l : List ℕ). getD l 0 0) (f .words) ∙ e)))
 single ws (binary k l r) f p q at s =
     ap (λ (b : Bool). if b then placed l (at + 2) s ++ placed r (at + 2 + length (encode l)) s else record { start = at; len = length (encode (binary k l r)); negated = s } ∷ [])
     (ne-eqb (binaryNumber k) 2 (λ e. p (ap (λ (l : List ℕ). getD l 0 0) (f .words) ∙ e)))
@@ -217,7 +210,7 @@ module _ (ws : List ℕ) (s : Starts ws) (e : getD ws 0 0 ≡ 8) where
     pub neg-pushes : Pushes (tail 2 ws) (start + 2) (not sign) out inner → Pushes ws start sign out (record { out = inner .out; used = inner .used + 2 })
     unfolding encode placed
     neg-pushes p =
-        let is-neg = is-neg-kind (turned .kind) ∙ eq-eqb (unaryNumber (turned .kind)) 8 (sym (turned .number-is) ∙ e) in
+        let is-neg = neg-number (turned .kind) ∙ eq-eqb (unaryNumber (turned .kind)) 8 (sym (turned .number-is) ∙ e) in
         let all : placed (treeAt ws) start sign ≡ placed (treeAt (tail 2 ws)) (start + 2) (not sign) =
         ap (λ (t : Expr). placed t start sign) (turned .is)
         ∙ ap (λ (b : Bool). if b then placed (turned .child) (start + 2) (not sign) else record { start = start; len = length (encode (unary (turned .kind) (turned .child))); negated = sign } ∷ []) is-neg

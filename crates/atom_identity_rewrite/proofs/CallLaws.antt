@@ -1,13 +1,13 @@
 -- The candidates of the tree that the words are, one tag after the other, and the public call. Assumes nothing.
 use mathlib.Core.Path.{_≡_, refl, sym, ap, ap₂, subst, _∙_}
-use mathlib.Core.Bool.{Bool, true, false, not}
+use mathlib.Core.Bool.{Bool, true, false}
 use mathlib.Core.List.{List, [], _∷_, _++_, append-nil, append-assoc}
 use mathlib.Core.Option.{Option, none, some}
 use Prim.Native.Nat.{ℕ, zero, suc, _+_, _*_, _-_, _/_, _≤_, _<_}
 use native.Mathlib.Nat.{add-zero}
 use native.Mathlib.Omega.{arith}
 use lib.Dec.{eqb, ltb}
-use lib.ListN.{length, take, getD, length-append}
+use lib.ListN.{length, getD}
 use lib.Seq.{take-all}
 use mir.Syntax.{w64}
 use mir.Val.{Fits}
@@ -27,7 +27,6 @@ use Rattle.expr.specs.Answers.{countedOutcome}
 use Rattle.expr.specs.Parts.{part}
 use Rattle.expr.specs.Front.{Exactly, Whole, treeAt}
 use Rattle.expr.specs.PartLaws.{parts, exact-tree, exact-whole, exact-length}
-use Rattle.expr.specs.Lent.{over}
 use Rattle.width.specs.Checked.{checked, withWords}
 use Rattle.width.specs.CheckedLaws.{checked-parse, Tree, checked-tree}
 use Rattle.rewriting.specs.AtomIdentityRewrite as def
@@ -41,7 +40,7 @@ use Rattle.atom_identity_rewrite.specs.declared.candidate.Offer.{Offer}
 use Rattle.atom_identity_rewrite.specs.declared.parts.Part.{Part}
 use Rattle.atom_identity_rewrite.specs.Calls.{Asked, candidate, noMore, orCount, askedFor, candidateAt, told, candidateWritten}
 use Rattle.atom_identity_rewrite.specs.Answers.{candidateOutcome}
-use Rattle.atom_identity_rewrite.specs.Contracts.{Stands, Standing, partTree, Makes, Matched, OfferIs, Offered, Offers, asked, OffersAll, OffersList, sumCandidates, Writable, Writes, Answers}
+use Rattle.atom_identity_rewrite.specs.Contracts.{Standing, partTree, Makes, Matched, OfferIs, Offered, Offers, asked, OffersAll, OffersList, sumCandidates, Writable, Writes, Answers}
 use Rattle.atom_identity_rewrite.proofs.HeldLaws.{not-so, is-so}
 use Rattle.atom_identity_rewrite.proofs.OfferLaws.{number-earlier}
 

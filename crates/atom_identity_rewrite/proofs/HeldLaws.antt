@@ -5,11 +5,7 @@ use mathlib.Core.List.{List}
 use mathlib.Core.Option.{Option, none, some}
 use Prim.Native.Nat.{ℕ}
 use lib.ListN.{getD}
-use Rattle.expr.specs.Outcome.{accepted}
 use Rattle.expr.specs.Expr.{Or, Expr, binary, encode}
-use Rattle.expr.specs.Parse.{arityOf}
-use Rattle.expr.specs.Parse as kinds
-use Rattle.expr.specs.KindLaws.{number-arity}
 use Rattle.expr.specs.Parts.{part}
 use Rattle.expr.specs.Front.{leftOf, rightOf}
 use Rattle.rewriting.specs.OptionalLaws.{not-both}
@@ -19,6 +15,7 @@ use Rattle.atom_identity_rewrite.specs.declared.addends.Addend.{Addend}
 use Rattle.atom_identity_rewrite.specs.declared.parts.Role.{Role}
 use Rattle.atom_identity_rewrite.specs.Contracts.{Stands, Standing, partTree, Named, AddendIs, addendOf, OrHeld, OrHeldIs, Held, HeldIs}
 use Rattle.atom_identity_rewrite.proofs.StandLaws.{stands-tree, first-word}
+use Rattle.atom_identity_rewrite.proofs.NodeLaws.{or-arity}
 
 -- ---- a test on `!b`
 
@@ -46,9 +43,6 @@ module _ (ws : List ℕ) (a : Addend) where
       subst (Stands ws (a .start) (a .len)) (sym e) (h .is .stands)
 
 -- ---- an Or that is held
-
-pub or-arity : (ws : List ℕ) (at : ℕ) → getD ws at 0 ≡ 5 → arityOf (getD ws at 0) ≡ accepted 2
-or-arity ws at e = ap arityOf e ∙ number-arity (kinds.two Or)
 
 module _ (ws : List ℕ) (r : Role) {o : Option (Expr × Expr)} (h : OrHeld ws r o) where
   pub or-none : r .has ≡ false → o ≡ none

@@ -3,13 +3,13 @@ use mathlib.Core.Path.{_≡_, refl, sym, ap, ap₂, subst, _∙_}
 use mathlib.Core.Bool.{Bool, true, false, _&&_, _||_}
 use mathlib.Core.List.{List}
 use mathlib.Core.Option.{Option, none, some}
-use Prim.Native.Nat.{ℕ, _+_}
+use Prim.Native.Nat.{ℕ}
 use native.Mathlib.Omega.{arith}
 use lib.ListN.{getD}
 use Rattle.arith.specs.Choice.{if_then_else_}
-use Rattle.expr.specs.Expr.{Neg, Binary, Add, And, Or, Xor, Expr, unary, binary, binaryNumber}
+use Rattle.expr.specs.Expr.{Binary, Add, And, Or, Xor, Expr, binary, binaryNumber}
 use Rattle.expr.specs.Front.{leftOf, rightOf}
-use Rattle.rewriting.specs.Optional.{onlyIf, map, _orElse_, _andThen_}
+use Rattle.rewriting.specs.Optional.{onlyIf, map, _orElse_}
 use Rattle.rewriting.specs.OptionalLaws.{then-none, then-some, then-never, else-none}
 use Rattle.rewriting.specs.AtomSimplifier.{not}
 use Rattle.rewriting.specs.AtomIdentityRewrite.{exprEq, operandsOf, operandOfNot, operandOfNeg, isNotOf, besideNotOf, matchBinaryAddWithNeg, xorAbsorbOne, matchXorAndAbsorb, sameUnorderedPair, xorOfOrAnd, matchXorViaOrMinusAnd, andOfOrNot, matchAndViaNotOrMinusNot}
@@ -66,11 +66,11 @@ module _ (ws : List ℕ) where
   match-some o u c e m = record { is = (u, e, m) }
 
   module _ (m : Match) (o : Option Expr) (h : Matched ws m o) where
-    was-none : m ≡ matched.None → o ≡ none
+    pub was-none : m ≡ matched.None → o ≡ none
     unfolding MatchIs
     was-none e = subst (λ (n : Match). MatchIs ws n o) e (h .is)
 
-    was-some : (c : Candidate) → m ≡ matched.Some c → (u : Expr) × (o ≡ some u) × Makes ws c u
+    pub was-some : (c : Candidate) → m ≡ matched.Some c → (u : Expr) × (o ≡ some u) × Makes ws c u
     unfolding MatchIs
     was-some c e = subst (λ (n : Match). MatchIs ws n o) e (h .is)
 

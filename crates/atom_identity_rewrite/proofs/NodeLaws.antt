@@ -2,29 +2,28 @@
 use mathlib.Core.Path.{_≡_, refl, sym, ap, ap₂, subst, _∙_}
 use mathlib.Core.Bool.{Bool, true, false, _&&_}
 use mathlib.Core.List.{List}
-use mathlib.Core.Option.{Option, none, some}
-use Prim.Native.Nat.{ℕ, _+_, _%_, _^_, _≤_, _<_}
+use mathlib.Core.Option.{none}
+use Prim.Native.Nat.{ℕ, _+_, _%_, _^_, _<_}
 use native.Mathlib.Omega.{arith}
 use lib.Dec.{T, eqb}
-use lib.ListN.{length, getD}
+use lib.ListN.{getD}
 use borrow.Author.Tests.{ne-eqb, eq-eqb}
 use Rattle.arith.specs.Arith.{lowBits}
 use Rattle.arith.specs.ArithLaws.{low-word}
-use Rattle.expr.specs.declared.Arity.the-variants as arity
 use Rattle.expr.specs.Outcome.{accepted}
-use Rattle.expr.specs.Expr.{Leaf, Constant, Variable, Unary, Not, Neg, Shr, ZExt, SExt, Trunc, Binary, Add, Mul, And, Or, Xor, Concat, Expr, leaf, unary, binary, leafNumber, unaryNumber, binaryNumber, encode}
+use Rattle.expr.specs.Expr.{Constant, Variable, Unary, Not, Neg, Shr, ZExt, SExt, Trunc, Binary, Add, Mul, And, Or, Xor, Concat, Expr, leaf, unary, binary, unaryNumber, binaryNumber, encode}
 use Rattle.expr.specs.Parse as kinds
 use Rattle.expr.specs.Parse.{arityOf}
 use Rattle.expr.specs.KindLaws.{number-arity, same-binary}
 use Rattle.expr.specs.SameWords.{sameWords}
 use Rattle.expr.specs.Parts.{part}
-use Rattle.expr.specs.Front.{Exactly, leftOf, rightOf}
+use Rattle.expr.specs.Front.{leftOf, rightOf}
 use Rattle.expr.specs.PartLaws.{one-child, two-children}
 use Rattle.rewriting.specs.Optional.{onlyIf}
-use Rattle.rewriting.specs.AtomSimplifier.{not, isNotKind, sameKind}
-use Rattle.rewriting.specs.TestLaws.{not-kind→eq}
-use Rattle.rewriting.specs.MatchLaws.{neg-kind→eq}
-use Rattle.rewriting.specs.AtomIdentityRewrite.{exprEq, operandsOf, operandOfNot, isNegKind, operandOfNeg, isNotOf, isMasked, isConstantNode}
+use Rattle.rewriting.specs.AtomSimplifier.{not}
+use Rattle.rewriting.specs.TestLaws.{not-kind→eq, not-number}
+use Rattle.rewriting.specs.MatchLaws.{neg-kind→eq, neg-number}
+use Rattle.rewriting.specs.AtomIdentityRewrite.{exprEq, operandsOf, operandOfNot, operandOfNeg, isNotOf, isMasked, isConstantNode}
 use Rattle.atom_identity_rewrite.specs.declared.parts.Part.{Part}
 use Rattle.atom_identity_rewrite.specs.Contracts.{Stands, Standing, partTree, IsOperand}
 use Rattle.atom_identity_rewrite.proofs.StandLaws.{places, first-word, second-word, arity-of}
@@ -58,28 +57,12 @@ or-arity e = two-arity Or e
 pub xor-arity : {n : ℕ} → n ≡ 6 → arityOf n ≡ accepted 2
 xor-arity e = two-arity Xor e
 
-is-not-kind : (k : Unary) → isNotKind k ≡ eqb (unaryNumber k) 7
-is-not-kind Not = refl
-is-not-kind Neg = refl
-is-not-kind (Shr k) = refl
-is-not-kind (ZExt n) = refl
-is-not-kind (SExt n) = refl
-is-not-kind (Trunc n) = refl
-
-is-neg-kind : (k : Unary) → isNegKind k ≡ eqb (unaryNumber k) 8
-is-neg-kind Not = refl
-is-neg-kind Neg = refl
-is-neg-kind (Shr k) = refl
-is-neg-kind (ZExt n) = refl
-is-neg-kind (SExt n) = refl
-is-neg-kind (Trunc n) = refl
-
 -- a kind with one child that has the number of one without operand
 not-named : (k : Unary) → unaryNumber k ≡ 7 → k ≡ Not
-not-named k e = not-kind→eq k (subst T (sym (is-not-kind k ∙ eq-eqb (unaryNumber k) 7 e)) tt)
+not-named k e = not-kind→eq k (subst T (sym (not-number k ∙ eq-eqb (unaryNumber k) 7 e)) tt)
 
 neg-named : (k : Unary) → unaryNumber k ≡ 8 → k ≡ Neg
-neg-named k e = neg-kind→eq k (subst T (sym (is-neg-kind k ∙ eq-eqb (unaryNumber k) 8 e)) tt)
+neg-named k e = neg-kind→eq k (subst T (sym (neg-number k ∙ eq-eqb (unaryNumber k) 8 e)) tt)
 
 -- ---- a node by its kind word
 
@@ -107,13 +90,13 @@ module _ (ws : List ℕ) (at len : ℕ) where
   pub no-not : (t : Expr) → Stands ws at len t → (getD ws at 0 ≡ 7 → ⊥) → operandOfNot t ≡ none
   unfolding encode operandOfNot
   no-not (leaf k) x f = refl
-  no-not (unary k t) x f = ap (λ (b : Bool). onlyIf b t) (is-not-kind k ∙ ne-eqb (unaryNumber k) 7 (λ e. f (sym (word (unary k t) x) ∙ e)))
+  no-not (unary k t) x f = ap (λ (b : Bool). onlyIf b t) (not-number k ∙ ne-eqb (unaryNumber k) 7 (λ e. f (sym (word (unary k t) x) ∙ e)))
   no-not (binary k l r) x f = refl
 
   pub no-neg : (t : Expr) → Stands ws at len t → (getD ws at 0 ≡ 8 → ⊥) → operandOfNeg t ≡ none
   unfolding encode operandOfNeg
   no-neg (leaf k) x f = refl
-  no-neg (unary k t) x f = ap (λ (b : Bool). onlyIf b t) (is-neg-kind k ∙ ne-eqb (unaryNumber k) 8 (λ e. f (sym (word (unary k t) x) ∙ e)))
+  no-neg (unary k t) x f = ap (λ (b : Bool). onlyIf b t) (neg-number k ∙ ne-eqb (unaryNumber k) 8 (λ e. f (sym (word (unary k t) x) ∙ e)))
   no-neg (binary k l r) x f = refl
 
   pub no-two : (j : Binary) (t : Expr) → Stands ws at len t → (getD ws at 0 ≡ binaryNumber j → ⊥) → operandsOf j t ≡ none
@@ -125,7 +108,7 @@ module _ (ws : List ℕ) (at len : ℕ) where
   pub no-not-of : (t u : Expr) → Stands ws at len t → (getD ws at 0 ≡ 7 → ⊥) → false ≡ isNotOf t u
   unfolding encode isNotOf
   no-not-of (leaf k) u x f = refl
-  no-not-of (unary k t) u x f = sym (ap (λ (b : Bool). b && exprEq t u) (is-not-kind k ∙ ne-eqb (unaryNumber k) 7 (λ e. f (sym (word (unary k t) x) ∙ e))))
+  no-not-of (unary k t) u x f = sym (ap (λ (b : Bool). b && exprEq t u) (not-number k ∙ ne-eqb (unaryNumber k) 7 (λ e. f (sym (word (unary k t) x) ∙ e))))
   no-not-of (binary k l r) u x f = refl
 
   -- a Constant

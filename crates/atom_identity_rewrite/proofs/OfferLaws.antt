@@ -23,8 +23,9 @@ use Rattle.atom_identity_rewrite.specs.declared.candidate.Candidate.{Can
 use Rattle.atom_identity_rewrite.specs.declared.candidate.Match.{Match}
 use Rattle.atom_identity_rewrite.specs.declared.candidate.Match.the-variants as matched
 use Rattle.atom_identity_rewrite.specs.declared.candidate.Offer.{Offer}
-use Rattle.atom_identity_rewrite.specs.Contracts.{partTree, AreOperands, Makes, MatchIs, Matched, OfferIs, Offered, Offers, addendOf, OrHeld, laxBy, OffersAll, LaxBy}
+use Rattle.atom_identity_rewrite.specs.Contracts.{partTree, AreOperands, Matched, OfferIs, Offered, Offers, addendOf, OrHeld, laxBy, OffersAll, LaxBy}
 use Rattle.atom_identity_rewrite.proofs.HeldLaws.{itsRole, or-none, or-sides, holding}
+use Rattle.atom_identity_rewrite.proofs.MatcherLaws.{was-none, was-some}
 
 -- ---- a candidate by its number
 
@@ -47,15 +48,6 @@ module _ (before : Offer) (tag : ℕ) where
   abbrev next : Expr → def.Candidate
   next u = record { tag = tag; tree = u }
 
-  module _ (ws : List ℕ) (m : Match) {o : Option Expr} (h : Matched ws m o) where
-    matched-none : m ≡ matched.None → o ≡ none
-    unfolding MatchIs
-    matched-none e = subst (λ (k : Match). MatchIs ws k o) e (h .is)
-
-    matched-some : {c : Candidate} → m ≡ matched.Some c → (u : Expr) × (o ≡ some u) × Makes ws c u
-    unfolding MatchIs
-    matched-some {c} e = subst (λ (k : Match). MatchIs ws k o) e (h .is)
-
   -- the candidates with one more
   more-is : (cs : List def.Candidate) {o : Option Expr} {u : Expr} → o ≡ some u → cs ++ tagged tag (toList o) ≡ cs ++ (next u ∷ [])
   unfolding tagged
@@ -65,7 +57,7 @@ module _ (before : Offer) (tag : ℕ) where
   unfolding tagged
   offer-none m e = record {
     offers = λ ws number cs o h x.
-        subst (λ (ds : List def.Candidate). Offered ws number ds before) (sym (ap (λ (p : Option Expr). cs ++ tagged tag (toList p)) (matched-none ws m h e) ∙ append-nil cs)) x;
+        subst (λ (ds : List def.Candidate). Offered ws number ds before) (sym (ap (λ (p : Option Expr). cs ++ tagged tag (toList p)) (was-none ws m o h e) ∙ append-nil cs)) x;
   }
 
   module _ (m : Match) (c : Candidate) (e : m ≡ matched.Some c) where
@@ -86,7 +78,7 @@ module _ (before : Offer) (tag : ℕ) where
     pub offer-found : before .found ≡ true → Offers before tag m before
     offer-found f = record {
       offers = λ ws number cs o h x.
-          let s = matched-some ws m h e in
+          let s = was-some ws m o h c e in
           subst (λ (ds : List def.Candidate). Offered ws number ds before) (sym (more-is cs (s .1))) (found-earlier ws number cs (s .0) before f x);
     }
 
@@ -94,7 +86,7 @@ module _ (before : Offer) (tag : ℕ) where
     unfolding OfferIs
     offer-passed f l k = record {
       offers = λ ws number cs o h x.
-          let s = matched-some ws m h e in
+          let s = was-some ws m o h c e in
           subst (λ (ds : List def.Candidate). Offered ws number ds (record { left = before .left - 1; found = false; tag = 0; candidate = k })) (sym (more-is cs (s .1)))
           (record { is = passed ws number cs (s .0) (before .left) l (count-left ws number cs before f x) });
     }
@@ -103,7 +95,7 @@ module _ (before : Offer) (tag : ℕ) where
     unfolding OfferIs
     offer-now f l = record {
       offers = λ ws number cs o h x.
-          let s = matched-some ws m h e in
+          let s = was-some ws m o h c e in
           let n : length cs ≡ number = omega (arith, l, count-left ws number cs before f x) in
           subst (λ (ds : List def.Candidate). Offered ws number ds (record { left = 0; found = true; tag = tag; candidate = c })) (sym (more-is cs (s .1)))
           (record { is = (next (s .0), subst (λ (i : ℕ). numbered i (cs ++ (next (s .0) ∷ [])) ≡ some (next (s .0))) n (number-last cs (next (s .0))), refl, s .2) });

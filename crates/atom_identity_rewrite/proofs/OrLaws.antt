@@ -18,6 +18,7 @@ use Rattle.atom_identity_rewrite.specs.declared.parts.Operands.{Operands
 use Rattle.atom_identity_rewrite.specs.declared.parts.Role.{Role}
 use Rattle.atom_identity_rewrite.specs.Contracts.{Standing, partTree, AreOperands, OrHeldIs, OrHeld, factorBy}
 use Rattle.atom_identity_rewrite.proofs.NodeLaws.{nodes, two-node, no-two}
+use Rattle.atom_identity_rewrite.proofs.HeldLaws.{or-none, or-sides}
 
 -- the operands of a node of the kind
 pub operands-some : (k : Binary) (t : Expr) → t ≡ binary k (leftOf t) (rightOf t) → operandsOf k t ≡ some (leftOf t, rightOf t)
@@ -41,24 +42,16 @@ module _ (ws : List ℕ) (p : Part) (x : Standing ws p) where
 -- ---- nothing is held, or one of two
 
 module _ (ws : List ℕ) where
-  pub or-none : (p : Part) (o : Option (Expr × Expr)) → o ≡ none → OrHeld ws (record { has = false; part = p }) o
+  none-held : (p : Part) (o : Option (Expr × Expr)) → o ≡ none → OrHeld ws (record { has = false; part = p }) o
   unfolding OrHeldIs
-  or-none p o e = record { is = e }
+  none-held p o e = record { is = e }
 
   module _ (r : Role) (o : Option (Expr × Expr)) (h : OrHeld ws r o) where
-    has-some : r .has ≡ true → (s : Expr × Expr) × (o ≡ some s)
-    unfolding OrHeldIs
-    has-some e = (_, subst (λ (b : Bool). OrHeldIs ws b (r .part) o) e (h .is) .2)
-
-    has-none : r .has ≡ false → o ≡ none
-    unfolding OrHeldIs
-    has-none e = subst (λ (b : Bool). OrHeldIs ws b (r .part) o) e (h .is)
-
     pub or-first : r .has ≡ true → (o′ : Option (Expr × Expr)) → OrHeld ws r (o orElse o′)
-    or-first e o′ = subst (OrHeld ws r) (let s = has-some e .1 in s ∙ sym (ap (λ (q : Option (Expr × Expr)). q orElse o′) s)) h
+    or-first e o′ = subst (OrHeld ws r) (let s = or-sides ws r h e in s ∙ sym (ap (λ (q : Option (Expr × Expr)). q orElse o′) s)) h
 
     pub or-second : r .has ≡ false → (s : Role) (o′ : Option (Expr × Expr)) → OrHeld ws s o′ → OrHeld ws s (o orElse o′)
-    or-second e s o′ g = subst (OrHeld ws s) (sym (ap (λ (q : Option (Expr × Expr)). q orElse o′) (has-none e))) g
+    or-second e s o′ g = subst (OrHeld ws s) (sym (ap (λ (q : Option (Expr × Expr)). q orElse o′) (or-none ws r h e))) g
 
 -- ---- `is_factor`, `or_beside`
 
@@ -76,14 +69,14 @@ module _ (tag w : ℕ) (t : Expr) where
     beside-factor e r g = subst (OrHeld ws r) (sym (ap (λ (d : Bool). if d then o else none) (sym h ∙ e))) g
 
     pub beside-none : b ≡ false → (p : Part) → OrHeld ws (record { has = false; part = p }) (if factorBy tag w t then o else none)
-    beside-none e p = or-none ws p _ (ap (λ (d : Bool). if d then o else none) (sym h ∙ e))
+    beside-none e p = none-held ws p _ (ap (λ (d : Bool). if d then o else none) (sym h ∙ e))
 
 -- ---- `or_in_product`, `or_inside`
 
 module _ (ws : List ℕ) (p : Part) (x : Standing ws p) (f : Expr → Bool) where
   pub no-product : (getD ws (p .start) 0 ≡ 3 → ⊥) → OrHeld ws (record { has = false; part = p }) (orInProduct f (partTree ws p))
   unfolding orInProduct
-  no-product g = or-none ws p _ (then-none (operandsOf Mul (partTree ws p)) _ (no-two ws (p .start) (p .len) Mul (partTree ws p) x g))
+  no-product g = none-held ws p _ (then-none (operandsOf Mul (partTree ws p)) _ (no-two ws (p .start) (p .len) Mul (partTree ws p) x g))
 
   module _ (e : getD ws (p .start) 0 ≡ 3) (o : Operands) (a : AreOperands ws p o) where
     -- the Or beside a factor

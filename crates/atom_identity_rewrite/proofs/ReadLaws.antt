@@ -18,7 +18,8 @@ use Rattle.atom_identity_rewrite.specs.declared.reading.Reading.{Reading
 use Rattle.atom_identity_rewrite.specs.Contracts.{Matched, addendOf, inUse, IsFlat, OrHeldIs, HeldIs, lastOf, unitBy, orBy, Sorted, SortsBy, ThreeSorted, AndOfRoles, FourSorted, XorOfRoles, laxBy, OffersAll, LaxBy, nothingRead, Reads, Carries, Carried}
 use Rattle.atom_identity_rewrite.proofs.HeldLaws.{addend-is}
 use Rattle.atom_identity_rewrite.proofs.OfferLaws.{offered-none, offered-both}
-use Rattle.atom_identity_rewrite.proofs.RoleLaws.{matches-none, and-not-three, xor-not-four}
+use Rattle.atom_identity_rewrite.proofs.RoleLaws.{and-not-three, xor-not-four}
+use Rattle.atom_identity_rewrite.proofs.MatcherLaws.{match-none}
 
 -- ---- `step`
 
@@ -104,10 +105,10 @@ module _ (ws : List ℕ) (w : ℕ) (o : Offer) (all : Addends) (f : IsFlat ws al
 module _ (ws : List ℕ) (w : ℕ) (all : Addends) (f : IsFlat ws all) where
   -- the answer where the addends are not so many
   pub and-count : (all .count ≡ 3 → ⊥) → Matched ws matched.None (matchAndViaNotOrPlusAPlusOne w (flattenAddends (treeAt ws)))
-  and-count n = matches-none ws (and-not-three w (flattenAddends (treeAt ws)) (λ e. n (f .counts ∙ e)))
+  and-count n = match-none ws _ (and-not-three w (flattenAddends (treeAt ws)) (λ e. n (f .counts ∙ e)))
 
   pub xor-count : (all .count ≡ 4 → ⊥) → Matched ws matched.None (matchXorViaOrnotFlat w (flattenAddends (treeAt ws)))
-  xor-count n = matches-none ws (xor-not-four w (flattenAddends (treeAt ws)) (λ e. n (f .counts ∙ e)))
+  xor-count n = match-none ws _ (xor-not-four w (flattenAddends (treeAt ws)) (λ e. n (f .counts ∙ e)))
 
   module _ (o : Offer) (start s : Reading) (c : Carried ws (inUse all) start s) where
     module _ (e : start ≡ nothingRead 4 w o) (n : all .count ≡ 3) where

@@ -18,7 +18,8 @@ use Rattle.rewriting.specs.AtomIdentityRewrite.{besideNotOf, anyNegated, extrac
 use Rattle.atom_identity_rewrite.specs.declared.candidate.Match.{Match}
 use Rattle.atom_identity_rewrite.specs.declared.candidate.Match.the-variants as matched
 use Rattle.atom_identity_rewrite.specs.declared.reading.Roles.{Roles}
-use Rattle.atom_identity_rewrite.specs.Contracts.{Standing, partTree, MatchIs, Matched, xorOfOrNot, unitBy, orBy, remaining, others, firstOf, lastOf, Held, Sorted, ThreeSorted, AndOfRoles, XorOfRoles}
+use Rattle.atom_identity_rewrite.specs.Contracts.{Standing, partTree, Matched, xorOfOrNot, unitBy, orBy, remaining, others, firstOf, lastOf, Held, Sorted, ThreeSorted, AndOfRoles, XorOfRoles}
+use Rattle.atom_identity_rewrite.proofs.MatcherLaws.{match-none}
 use Rattle.atom_identity_rewrite.proofs.HeldLaws.{or-none, or-sides, held-none, held-some, held-stands, held-has, holding}
 
 -- ---- what `extract` leaves
@@ -138,13 +139,9 @@ module _ (w : ℕ) where
   pub and-not-three : (xs : List def.Addend) → (length xs ≡ 3 → ⊥) → matchAndViaNotOrPlusAPlusOne w xs ≡ none
   and-not-three xs f = and-is xs (ne-eqb (length xs) 3 f) refl
 
-pub matches-none : (ws : List ℕ) {o : Option Expr} → o ≡ none → Matched ws matched.None o
-unfolding MatchIs
-matches-none ws e = record { is = e }
-
 module _ (ws : List ℕ) (r : Roles) where
   pub and-negated : r .negated ≡ true → AndOfRoles ws r matched.None
-  and-negated e = record { is = λ w xs l s. matches-none ws (and-is w xs (eq-eqb (length xs) 3 l) (sym (s .negated-is) ∙ e)) }
+  and-negated e = record { is = λ w xs l s. match-none ws _ (and-is w xs (eq-eqb (length xs) 3 l) (sym (s .negated-is) ∙ e)) }
 
   module _ (n : r .negated ≡ false) where
     -- the answer for three addends, none of them subtracted
@@ -156,7 +153,7 @@ module _ (ws : List ℕ) (r : Roles) where
     unfolding unitBy
     and-no-unit e = record {
       is = λ w xs l s.
-          matches-none ws (added-is w xs l s ∙ ap (λ (o : Option (Expr × List def.Addend)). o andThen andOfRest w) (no-unit ws (unitBy 4 w) (orBy 4 w) xs r s e));
+          match-none ws _ (added-is w xs l s ∙ ap (λ (o : Option (Expr × List def.Addend)). o andThen andOfRest w) (no-unit ws (unitBy 4 w) (orBy 4 w) xs r s e));
     }
 
     module _ (e : r .unit ≡ true) where
@@ -172,7 +169,7 @@ module _ (ws : List ℕ) (r : Roles) where
       unfolding orBy
       and-no-or h = record {
         is = λ w xs l s.
-            matches-none ws (rest-is w xs l s
+            match-none ws _ (rest-is w xs l s
             ∙ ap (λ (o : Option ((Expr × Expr) × List def.Addend)). o andThen andOfLeft w) (no-or ws (unitBy 4 w) (orBy 4 w) xs r s (unit-4 w xs l s) h));
       }
 
@@ -270,7 +267,7 @@ module _ (ws : List ℕ) (r : Roles) where
   unfolding unitBy
   xor-no-unit e = record {
     is = λ w xs l s.
-        matches-none ws (xor-is w xs l ∙ ap (λ (o : Option (Expr × List def.Addend)). o andThen xorOfRest w) (no-unit ws (unitBy 5 w) (orBy 5 w) xs r s e));
+        match-none ws _ (xor-is w xs l ∙ ap (λ (o : Option (Expr × List def.Addend)). o andThen xorOfRest w) (no-unit ws (unitBy 5 w) (orBy 5 w) xs r s e));
   }
 
   module _ (e : r .unit ≡ true) where
@@ -286,7 +283,7 @@ module _ (ws : List ℕ) (r : Roles) where
     unfolding orBy
     xor-no-or h = record {
       is = λ w xs l s.
-          matches-none ws (rest-is-5 w xs l s
+          match-none ws _ (rest-is-5 w xs l s
           ∙ ap (λ (o : Option ((Expr × Expr) × List def.Addend)). o andThen xorOfLeft) (no-or ws (unitBy 5 w) (orBy 5 w) xs r s (unit-5 w xs l s) h));
     }
 
@@ -316,14 +313,14 @@ module _ (ws : List ℕ) (r : Roles) where
       pub xor-no-plus : r .plus .has ≡ false → XorOfRoles ws r matched.None
       xor-no-plus p = record {
         is = λ w xs l s.
-            matches-none ws (pair-gives w xs l s none (pair-is w xs l s
+            match-none ws _ (pair-gives w xs l s none (pair-is w xs l s
             ∙ ap (λ (o : Option Expr). both o (lastOf true (or-5 w xs l s .left))) (held-none ws (r .plus) (plus-5 w xs l s) p)));
       }
 
       pub xor-no-minus : r .minus .has ≡ false → XorOfRoles ws r matched.None
       xor-no-minus p = record {
         is = λ w xs l s.
-            matches-none ws (pair-gives w xs l s none (pair-is w xs l s
+            match-none ws _ (pair-gives w xs l s none (pair-is w xs l s
             ∙ ap (both (lastOf false (or-5 w xs l s .left))) (held-none ws (r .minus) (minus-5 w xs l s) p) ∙ both-none (lastOf false (or-5 w xs l s .left))));
       }
 

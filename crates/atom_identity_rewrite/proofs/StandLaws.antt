@@ -1,11 +1,11 @@
 -- Subtrees by their places: their first two words, and their operands. Assumes nothing.
-use mathlib.Core.Path.{_≡_, refl, sym, ap, subst, subst₂, _∙_}
+use mathlib.Core.Path.{_≡_, sym, ap, subst, subst₂, _∙_}
 use mathlib.Core.List.{List, [], _∷_, _++_}
 use Prim.Native.Nat.{ℕ, zero, suc, _+_, _*_, _-_, _≤_, _<_}
 use native.Mathlib.Omega.{arith}
 use lib.Dec.{T}
 use lib.ListN.{length, take, drop, getD, length-append, length-take, length-drop}
-use lib.Seq.{take-nil, drop-nil, take-take, drop-drop, getD-take, getD-drop}
+use lib.Seq.{take-nil, take-take, drop-drop, getD-take, getD-drop}
 use mir.Syntax.{w64}
 use mir.Val.{Fits}
 use Rattle.expr.specs.declared.refusal.Refusal.{Refusal}
@@ -21,9 +21,8 @@ use Rattle.expr.specs.Span.{spanOf}
 use Rattle.expr.specs.SpanLaws.{span-encode}
 use Rattle.expr.specs.Parts.{tail, part}
 use Rattle.expr.specs.Front.{Exactly, treeAt, leftOf, rightOf}
-use Rattle.expr.specs.PartLaws.{exact-tree, exact-length, exact-whole, one-child, two-children, TwoChildren}
+use Rattle.expr.specs.PartLaws.{exact-tree, exact-length, one-child, two-children, TwoChildren}
 use Rattle.atom_identity_rewrite.specs.declared.parts.Part.{Part}
-use Rattle.atom_identity_rewrite.specs.declared.parts.Operands.{Operands}
 use Rattle.atom_identity_rewrite.specs.Contracts.{Stands, Standing, partTree, AreOperands, IsOperand}
 
 -- ---- a part of a part
@@ -88,10 +87,6 @@ module _ (ws : List ℕ) (at len : ℕ) (t : Expr) (x : Stands ws at len t) wher
   -- ---- `operand_of`
 
   module _ (a : arityOf (getD ws at 0) ≡ accepted 1) where
-    child-nodes : 1 + nodes (leftOf t) ≡ nodes t
-    unfolding nodes
-    child-nodes = sym (ap nodes (one-child P t (x .exactly) (arity-of 1 a) .is))
-
     pub child-stands : Stands ws (at + 2) (len - 2) (leftOf t)
     child-stands =
         within 2 len (leftOf t) (omega arith) (omega (arith, stands-length, nodes-pos t))

@@ -1,21 +1,20 @@
 -- A candidate's words, written at the front of lent ones. Assumes nothing.
 use mathlib.Core.Path.{_≡_, refl, sym, ap, subst, _∙_}
 use mathlib.Core.Bool.{Bool, true, false}
-use mathlib.Core.List.{List, [], _∷_, _++_, append-assoc}
-use Prim.Native.Nat.{ℕ, _+_, _*_, _-_, _≤_}
+use mathlib.Core.List.{List, [], _∷_, _++_}
+use Prim.Native.Nat.{ℕ, _+_, _-_, _≤_}
 use native.Mathlib.Omega.{arith}
-use lib.ListN.{length, take, drop, set, length-append}
+use lib.ListN.{length, take, set, length-append}
 use lib.Seq.{take-all}
 use mir.Syntax.{w64}
 use mir.Val.{Fits}
 use borrow.Rule.Slice.PartMut.{putMid}
-use Rattle.expr.specs.Expr.{Binary, Expr, binary, binaryNumber, encode, nodes}
+use Rattle.expr.specs.Expr.{Expr, encode}
 use Rattle.expr.specs.ExprLaws.{length-encode}
 use Rattle.expr.specs.Parts.{tail, part}
 use Rattle.expr.specs.TailLaws.{length-tail}
 use Rattle.expr.specs.Lent.{over, Laid}
 use Rattle.expr.specs.LentLaws.{laid-length, laid-on}
-use Rattle.rewriting.specs.AtomSimplifier as tree
 use Rattle.atom_identity_rewrite.specs.declared.parts.Part.{Part}
 use Rattle.atom_identity_rewrite.specs.declared.candidate.Candidate.{Candidate}
 use Rattle.atom_identity_rewrite.specs.Contracts.{Standing, partTree, secondTree, Makes, Writable, Writes}

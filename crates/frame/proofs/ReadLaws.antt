@@ -6,8 +6,8 @@ use Prim.Native.Nat.{ℕ, suc, _+_, _-_, _*_, _/_, _%_, _^_, _≤_, _<_, min}
 use native.Mathlib.Nat.{sub-zero}
 use native.Mathlib.Omega.{arith}
 use lib.Dec.{leb, ltb, eqb}
-use lib.ListN.{length, take, drop, getD, set, length-drop, length-set, length-take, take-append-drop}
-use lib.Seq.{take-suc, take-all, take-at, paste, paste-suc, paste-zero}
+use lib.ListN.{length, take, drop, getD, length-drop, length-take, take-append-drop}
+use lib.Seq.{take-suc, take-all, take-at}
 use mir.Syntax.{w32, w64}
 use mir.Val.{Fits}
 use borrow.Author.Tests.{lt-ltb, le-ltb, eq-eqb, ne-eqb}
@@ -24,7 +24,7 @@ use Rattle.expr.specs.ExprLaws.{length-encode}
 use Rattle.expr.specs.Answers.{countedOutcome}
 use Rattle.expr.specs.Parts.{tail, part}
 use Rattle.expr.specs.TailLaws.{tail-drop, length-tail}
-use Rattle.expr.specs.Lent.{over, Laid}
+use Rattle.expr.specs.Lent.{over}
 use Rattle.hex.specs.declared.Parsed.{Parsed}
 use Rattle.hex.specs.Hex.{allDigits, numberOf}
 use Rattle.hex.specs.HexLaws.{all-append, number-below, number-whole}

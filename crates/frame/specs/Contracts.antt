@@ -8,9 +8,7 @@ use Rattle.arith.specs.Choice.{if_then_else_}
 use Rattle.expr.specs.Refusals.{refusal}
 use Rattle.expr.specs.Outcome.{Outcome, refused, accepted, mapped, _andThen_}
 use Rattle.expr.specs.Expr.{Expr, encode, nodes}
-use Rattle.expr.specs.Parse.{parse}
 use Rattle.expr.specs.Parts.{part}
-use Rattle.width.specs.Width.{supported}
 use Rattle.frame.specs.Frame.{lineWords, unended, framed}
 use Rattle.frame.specs.Answers.{readOutcome, left}
 use Rattle.frame.specs.declared.Line.{Line}

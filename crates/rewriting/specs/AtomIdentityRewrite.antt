@@ -4,7 +4,7 @@ use mathlib.Core.Bool.{Bool, true, false, _&&_, _||_}
 use mathlib.Core.Bool as bool
 use mathlib.Core.List.{List, [], _∷_, _++_}
 use mathlib.Core.Option.{Option, none, some}
-use Prim.Native.Nat.{ℕ, zero, suc, _%_, _^_}
+use Prim.Native.Nat.{ℕ, _%_, _^_}
 use lib.Dec.{eqb}
 use lib.ListN.{length}
 use Rattle.arith.specs.Choice.{if_then_else_}

@@ -13,7 +13,7 @@ use lib.Dec.{T, eqb}
 use lib.ListN.{length}
 use mir.Facts.{and-yes, or-yes, or-no}
 use Rattle.arith.specs.Choice.{if_then_else_}
-use Rattle.expr.specs.Expr.{Unary, Not, Neg, Shr, ZExt, SExt, Trunc, Binary, Add, Mul, And, Or, Xor, Concat, Expr, leaf, unary, binary}
+use Rattle.expr.specs.Expr.{Unary, Not, Neg, Shr, ZExt, SExt, Trunc, Binary, Add, Mul, And, Or, Xor, Concat, Expr, leaf, unary, binary, unaryNumber}
 use Rattle.expr.specs.SameWordsLaws.{same→tree}
 use Rattle.value.specs.Value.{binaryValue, value}
 use Rattle.rewriting.specs.Optional.{onlyIf, map, _andThen_, _orElse_}
@@ -36,6 +36,15 @@ not-of→eq (unary k t) inner h =
     let p = and-yes (isNotKind k) (exprEq t inner) h in
     ap₂ unary (not-kind→eq k (p .0)) (expr-eq→eq t inner (p .1))
 not-of→eq (binary k l r) inner h = absurd h
+
+-- by the number of the kind
+pub neg-number : (k : Unary) → isNegKind k ≡ eqb (unaryNumber k) 8
+neg-number Not = refl
+neg-number Neg = refl
+neg-number (Shr n) = refl
+neg-number (ZExt n) = refl
+neg-number (SExt n) = refl
+neg-number (Trunc n) = refl
 
 pub neg-kind→eq : (k : Unary) → T (isNegKind k) → k ≡ Neg
 neg-kind→eq Not h = absurd h

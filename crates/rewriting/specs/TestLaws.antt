@@ -2,9 +2,9 @@
 use mathlib.Core.Path.{_≡_, refl, sym, ap, subst, _∙_}
 use mathlib.Core.Option.{Option, some}
 use Prim.Native.Nat.{ℕ}
-use lib.Dec.{T, eqb→eq, eqb-refl}
+use lib.Dec.{T, eqb, eqb→eq, eqb-refl}
 use mir.Facts.{and-yes}
-use Rattle.expr.specs.Expr.{Constant, Variable, Unary, Not, Neg, Shr, ZExt, SExt, Trunc, Binary, Expr, leaf, unary, binary, binaryNumber}
+use Rattle.expr.specs.Expr.{Constant, Variable, Unary, Not, Neg, Shr, ZExt, SExt, Trunc, Binary, Expr, leaf, unary, binary, unaryNumber, binaryNumber}
 use Rattle.expr.specs.KindLaws.{same-binary}
 use Rattle.expr.specs.SameWordsLaws.{same→tree, tree→same}
 use Rattle.rewriting.specs.Optional.{_equalsSome_}
@@ -17,6 +17,15 @@ not-kind→eq (Shr n) h = absurd h
 not-kind→eq (ZExt n) h = absurd h
 not-kind→eq (SExt n) h = absurd h
 not-kind→eq (Trunc n) h = absurd h
+
+-- by the number of the kind
+pub not-number : (k : Unary) → isNotKind k ≡ eqb (unaryNumber k) 7
+not-number Not = refl
+not-number Neg = refl
+not-number (Shr n) = refl
+not-number (ZExt n) = refl
+not-number (SExt n) = refl
+not-number (Trunc n) = refl
 
 pub same-kind→eq : (k j : Binary) → T (sameKind k j) → k ≡ j
 same-kind→eq k j h = same-binary k j (eqb→eq (binaryNumber k) (binaryNumber j) h)
