@@ -20,7 +20,7 @@ use Rattle.expr.specs.declared.Counted.the-variants as counted
 use Rattle.expr.specs.Refusals.{refusal, reasonOf}
 use Rattle.expr.specs.Outcome.{Outcome, refused, accepted, mapped, _andThen_}
 use Rattle.expr.specs.OutcomeLaws.{then-accepted, mapped-accepted, mapped-made, refused-then, refused-mapped}
-use Rattle.expr.specs.Expr.{Constant, Variable, Unary, Not, Neg, Shr, ZExt, SExt, Trunc, Expr, leaf, unary, binary, unaryNumber, encode, nodes}
+use Rattle.expr.specs.Expr.{Constant, Variable, Unary, Not, Neg, Shr, ZExt, SExt, Trunc, Expr, leaf, unary, binary, unaryNumber, binaryNumber, encode, nodes}
 use Rattle.expr.specs.ExprLaws.{length-encode}
 use Rattle.expr.specs.ParseLaws.{parse-sound}
 use Rattle.expr.specs.Answers.{countedOutcome}
@@ -29,6 +29,7 @@ use Rattle.expr.specs.Front.{Exactly, Whole, treeAt}
 use Rattle.expr.specs.PartLaws.{parts, exact-tree, exact-whole, exact-length}
 use Rattle.width.specs.Checked.{checked, withWords}
 use Rattle.width.specs.CheckedLaws.{checked-parse, Tree, checked-tree}
+use Rattle.rewriting.specs.MatchLaws.{neg-number}
 use Rattle.rewriting.specs.AtomIdentityRewrite as def
 use Rattle.rewriting.specs.AtomIdentityRewrite.{toList, matchXorAndAbsorb, matchXorViaOrMinusAnd, matchAndViaNotOrMinusNot, flattenAddends, laxAnd, laxXor, each, isAdd, tagged, laxCandidates, candidates}
 use Rattle.rewriting.specs.CandidateClaims.{numbered}
@@ -43,6 +44,7 @@ use Rattle.atom_identity_rewrite.specs.Answers.{candidateOutcome}
 use Rattle.atom_identity_rewrite.specs.Contracts.{Standing, partTree, Makes, Matched, OfferIs, Offered, Offers, asked, OffersAll, OffersList, sumCandidates, Writable, Writes, Answers}
 use Rattle.atom_identity_rewrite.proofs.HeldLaws.{not-so, is-so}
 use Rattle.atom_identity_rewrite.proofs.OfferLaws.{number-earlier}
+use Rattle.atom_identity_rewrite.proofs.RoleLaws.{and-not-three, xor-not-four}
 
 -- ---- the root
 
@@ -129,6 +131,27 @@ pub ruleset laxes = (parts, no-lax, lax-offered)
 -- ---- tags 4 to 7, and all tags
 
 module _ (ws : List ℕ) where
+  -- a root that is neither an Add nor a Neg is the only addend
+  only-addend : (t : Expr) → Exactly ws t → (getD ws 0 0 ≡ 2 → ⊥) → (getD ws 0 0 ≡ 8 → ⊥) → length (flattenAddends t) ≡ 1
+  unfolding encode def.pushAddend
+  only-addend (leaf k) x f g = refl
+  only-addend (unary k t) x f g =
+      ap (λ (b : Bool). length (if b then def.pushAddend true t else record { expr = unary k t; negated = false } ∷ []))
+      (neg-number k ∙ ne-eqb (unaryNumber k) 8 (λ e. g (ap (λ (l : List ℕ). getD l 0 0) (x .words) ∙ e)))
+  only-addend (binary k l r) x f g =
+      ap (λ (b : Bool). length (if b then def.pushAddend false l ++ def.pushAddend false r else record { expr = binary k l r; negated = false } ∷ []))
+      (ne-eqb (binaryNumber k) 2 (λ e. f (ap (λ (v : List ℕ). getD v 0 0) (x .words) ∙ e)))
+
+  pub no-sum : Whole ws → (w : ℕ) (a : Offer) → (getD ws 0 0 ≡ 2 → ⊥) → (getD ws 0 0 ≡ 8 → ⊥) → OffersList ws (sumCandidates w (treeAt ws)) a a
+  unfolding tagged
+  no-sum x w a f g =
+      let n = only-addend (treeAt ws) x f g in
+      let four = and-not-three w (flattenAddends (treeAt ws)) (λ e. omega (arith, n, e)) in
+      let five = xor-not-four w (flattenAddends (treeAt ws)) (λ e. omega (arith, n, e)) in
+      subst (λ (cs : List def.Candidate). OffersList ws cs a a)
+      (sym (ap₂ (λ (o p : Option Expr). tagged 4 (toList o) ++ (tagged 5 (toList p) ++ laxCandidates (treeAt ws))) four five)) (no-lax ws x a f)
+
+module _ (ws : List ℕ) where
   pub found-already : (a : Offer) (more : List def.Candidate) → a .found ≡ true → OffersList ws more a a
   unfolding OfferIs
   found-already a more f = record {
@@ -150,7 +173,7 @@ module _ (ws : List ℕ) where
         joined ws _ _ a b e (all-listed ws 1 _ a b f) (joined ws _ _ b c e (all-listed ws 2 _ b c g) (joined ws _ _ c d e (all-listed ws 3 _ c d h) j))
         .offers number [] (subst (Offered ws number []) (sym i) (record { is = add-zero number }))
 
-pub ruleset tags = (found-already, sum-offered, all-offered)
+pub ruleset tags = (parts, found-already, no-sum, sum-offered, all-offered)
 
 -- ---- `admit`
 

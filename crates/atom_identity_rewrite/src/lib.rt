@@ -101,7 +101,18 @@ fn offer_lax(words: &[u64], width: u32, all: Addends, asked: Offer) -> Offer
     matchers::match_xor_via_ornot_lax(words, width, all, ands)
 }
 
-// Tags 4 to 7. The addends are not read where the candidate is found already.
+// Tags 4 to 7, of a sum.
+fn offer_addends(words: &[u64], width: u32, asked: Offer) -> Offer
+    requires { ⌜ Whole (now words) × (length (now words) ≤ 1024) ⌝ }
+    ensures { λ r. ⌜ OffersList (now (words .entry)) (sumCandidates width (treeAt (now (words .entry)))) asked r ⌝ }
+{
+    let all = addends::flatten_addends(words);
+    let four = offer_plus_one(words, width, all, asked);
+    let five = offer_ornot_flat(words, width, all, four);
+    offer_lax(words, width, all, five)
+}
+
+// Tags 4 to 7. The addends are not gathered where the candidate is found already, nor where the root is the only one.
 fn offer_sum(words: &[u64], width: u32, asked: Offer) -> Offer
     requires { ⌜ Whole (now words) × (length (now words) ≤ 1024) ⌝ }
     ensures { λ r. ⌜ OffersList (now (words .entry)) (sumCandidates width (treeAt (now (words .entry)))) asked r ⌝ }
@@ -109,10 +120,13 @@ fn offer_sum(words: &[u64], width: u32, asked: Offer) -> Offer
     if asked.found {
         return asked;
     }
-    let all = addends::flatten_addends(words);
-    let four = offer_plus_one(words, width, all, asked);
-    let five = offer_ornot_flat(words, width, all, four);
-    offer_lax(words, width, all, five)
+    if words[0] == kind::ADD {
+        return offer_addends(words, width, asked);
+    }
+    if words[0] == kind::NEG {
+        return offer_addends(words, width, asked);
+    }
+    asked
 }
 
 // The candidate of that number of the tree that the words are.

@@ -11,8 +11,10 @@ offer-sum-spec =
     tie.close
     (tie.spec
     (λ c. search rules)
+    (λ c. search rules)
     (λ c κs. search rules)
+    (λ c. search rules)
+    (λ c. search rules)
     (λ c κs. search rules)
-    (λ c κs. search rules)
-    (λ c κs. search rules)
+    (λ c. search rules)
     (λ c. search rules))
