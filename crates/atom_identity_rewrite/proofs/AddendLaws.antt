@@ -1,13 +1,12 @@
 -- The walk that gathers a tree's addends, and where they stand. Assumes nothing.
 use mathlib.Core.Path.{_≡_, refl, sym, ap, subst, _∙_}
 use mathlib.Core.Bool.{Bool, true, false, not}
-use mathlib.Core.List.{List, [], _∷_, _++_, append-assoc}
+use mathlib.Core.List.{List, [], _∷_, _++_, append-assoc, append-nil}
 use Prim.Native.Nat.{ℕ, suc, _+_, _*_, _-_, _/_, _%_, _≤_, _<_}
-use native.Mathlib.Nat.{zero-add}
 use native.Mathlib.Omega.{arith}
 use lib.Dec.{T}
-use lib.ListN.{length, take, drop, getD, length-append}
-use lib.Seq.{take-at, drop-at, drop-drop}
+use lib.ListN.{length, take, drop, getD, set, replicate, length-append, length-set, length-drop, length-replicate, getD-replicate}
+use lib.Seq.{take-at, drop-at, drop-drop, length-take-le, take-suc-set, getD-drop, getD-set-same, getD-set-other}
 use mir.Facts.{and-yes}
 use mir.Syntax.{w64}
 use mir.Val.{Fits}
@@ -18,7 +17,7 @@ use Rattle.expr.specs.declared.Arity.the-variants.{One, Two}
 use Rattle.expr.specs.declared.Counted.{Counted}
 use Rattle.expr.specs.declared.Counted.the-variants.{Count, Refused}
 use Rattle.expr.specs.Outcome.{accepted}
-use Rattle.expr.specs.Expr.{Neg, Add, Expr, leaf, unary, binary, unaryNumber, unaryOperand, binaryNumber, encode, nodes}
+use Rattle.expr.specs.Expr.{Neg, Add, Unary, Binary, Expr, leaf, unary, binary, unaryNumber, unaryOperand, binaryNumber, encode, nodes}
 use Rattle.expr.specs.ExprLaws.{nodes-pos, length-encode}
 use Rattle.expr.specs.Parse.{arityOf, operandOk, operandsOk, wordCountOk}
 use Rattle.expr.specs.Parse as kinds
@@ -30,21 +29,16 @@ use Rattle.expr.specs.SpanLaws.{span-encode}
 use Rattle.expr.specs.Parts.{tail}
 use Rattle.expr.specs.TailLaws.{tail-drop, length-tail}
 use Rattle.expr.specs.Front.{Front, Starts, Whole, treeAt}
-use Rattle.expr.specs.FrontLaws.{UnaryNode, BinaryNode, unary-node, binary-node, has-node, has-kind, child-falls}
+use Rattle.expr.specs.FrontLaws.{UnaryNode, BinaryNode, unary-node, binary-node, has-node}
 use Rattle.expr.specs.PartLaws.{front-tree, starts-front, exact-front, exact-length}
 use Rattle.rewriting.specs.AtomSimplifier.{sameKind}
 use Rattle.rewriting.specs.MatchLaws.{neg-number}
 use Rattle.rewriting.specs.AtomIdentityRewrite as def
 use Rattle.rewriting.specs.AtomIdentityRewrite.{isNegKind, pushAddend, flattenAddends}
 use Rattle.atom_identity_rewrite.specs.declared.addends.Addend.{Addend}
-use Rattle.atom_identity_rewrite.specs.declared.addends.Addends.{Addends}
-use Rattle.atom_identity_rewrite.specs.declared.addends.Pushed.{Pushed}
-use Rattle.atom_identity_rewrite.specs.Contracts.{Stands, placed, inUse, Added, Pushes, AddendsAre, IsFlat}
+use Rattle.atom_identity_rewrite.specs.Contracts.{Stands, placed, AddendsAre, IsFlat}
 
 -- ---- `length_of`
-
-front-length : (ws : List ℕ) (t : Expr) → Front ws t → length (encode t) ≤ length ws
-front-length ws t f = omega (arith, ap length (f .words), length-append (encode t) (f .rest))
 
 module _ (ws : List ℕ) (s : Starts ws) (even : length ws % 2 ≡ 0) (short : length ws ≤ 1024) (c : Counted) (h : countedOutcome c ≡ spanOf ws) where
   spanned : countedOutcome c ≡ accepted (2 * nodes (treeAt ws))
@@ -91,147 +85,6 @@ single ws (unary k t) f p q at s =
 single ws (binary k l r) f p q at s =
     ap (λ (b : Bool). if b then placed l (at + 2) s ++ placed r (at + 2 + length (encode l)) s else record { start = at; len = length (encode (binary k l r)); negated = s } ∷ [])
     (ne-eqb (binaryNumber k) 2 (λ e. p (ap (λ (l : List ℕ). getD l 0 0) (f .words) ∙ e)))
-
--- lists that are put after one another
-added-then : {a b c : Addends} {xs ys : List Addend} → Added a xs b → Added b ys c → Added a (xs ++ ys) c
-added-then {a} {b} {c} {xs} {ys} p q = record {
-  counts = omega (arith, p .counts, q .counts, length-append xs ys);
-  holds = q .holds ∙ ap (λ (l : List Addend). l ++ ys) (p .holds) ∙ append-assoc (inUse a) xs ys;
-}
-
--- ---- the calls of `push_addend`: the part behind a node's two words
-
-module _ (ws : List ℕ) (s : Starts ws) where
-  pub child-even : length ws % 2 ≡ 0 → length (tail 2 ws) % 2 ≡ 0
-  child-even h = omega (arith, has-node ws s, length-tail 2 ws)
-
-  pub child-placed : (start : ℕ) → length ws + start ≤ 1024 → length (tail 2 ws) + (start + 2) ≤ 1024
-  child-placed start h = omega (arith, has-node ws s, length-tail 2 ws)
-
-  pub child-room : (n : ℕ) → 4 * n + length ws ≤ 1024 → 4 * n + length (tail 2 ws) ≤ 1024
-  child-room n h = omega (arith, length-tail 2 ws)
-
-  pub has-room : (n : ℕ) → 4 * n + length ws ≤ 1024 → n < 256
-  has-room n h = omega (arith, has-node ws s)
-
--- ---- an Add
-
-module _ (ws : List ℕ) (s : Starts ws) (e : getD ws 0 0 ≡ 2) where
-  sum : BinaryNode ws (treeAt ws)
-  sum = binary-node ws Two (sym (ap arityOf e ∙ number-arity (kinds.two Add))) (treeAt ws) refl (starts-front ws s)
-
-  left-is : treeAt (tail 2 ws) ≡ sum .left
-  left-is = front-tree (tail 2 ws) (sum .left) (sum .left-below)
-
-  pub left-starts : Starts (tail 2 ws)
-  left-starts = record { tree = sum .left; front = sum .left-below }
-
-  module _ (at : ℕ) (sign : Bool) (out : Addends) (left : Pushed) (p : Pushes (tail 2 ws) at sign out left) where
-    used : left .used ≡ length (encode (sum .left))
-    used = p .used-is ∙ ap (λ (t : Expr). length (encode t)) left-is
-
-    behind : tail (length (encode (sum .left))) (tail 2 ws) ≡ tail (left .used + 2) ws
-    behind =
-        let n : 2 + length (encode (sum .left)) ≡ left .used + 2 = omega (arith, used) in
-        tail-drop (length (encode (sum .left))) (tail 2 ws) ∙ ap (drop (length (encode (sum .left)))) (tail-drop 2 ws) ∙ drop-drop (length (encode (sum .left))) 2 ws
-        ∙ ap (λ (i : ℕ). drop i ws) n ∙ sym (tail-drop (left .used + 2) ws)
-
-    right-front : Front (tail (left .used + 2) ws) (sum .right)
-    right-front = subst (λ (l : List ℕ). Front l (sum .right)) behind (sum .right-below)
-
-    pub right-starts : Starts (tail (left .used + 2) ws)
-    right-starts = record { tree = sum .right; front = right-front }
-
-    pub left-within : left .used + 2 ≤ length ws
-    left-within = omega (arith, used, front-length (tail 2 ws) (sum .left) (sum .left-below), length-tail 2 ws, has-node ws s)
-
-    pub right-falls : (m : ℕ) → length ws ≡ m → length (tail (left .used + 2) ws) < m
-    right-falls m h = omega (arith, length-tail (left .used + 2) ws, left-within)
-
-    pub right-even : length ws % 2 ≡ 0 → length (tail (left .used + 2) ws) % 2 ≡ 0
-    right-even h = omega (arith, length-tail (left .used + 2) ws, left-within, used, length-encode (sum .left))
-
-    pub right-room : 4 * out .count + length ws ≤ 1024 → 4 * left .out .count + length (tail (left .used + 2) ws) ≤ 1024
-    right-room h = omega (arith, length-tail (left .used + 2) ws, left-within, p .used-is, p .added .counts, few (treeAt (tail 2 ws)) at sign)
-
-    module _ (start : ℕ) (h : length ws + start ≤ 1024) where
-      pub right-placed : length (tail (left .used + 2) ws) + (start + 2 + left .used) ≤ 1024
-      right-placed = omega (arith, length-tail (left .used + 2) ws, left-within)
-
-      pub right-fits : Fits w64 (left .used + 2)
-      right-fits = omega (arith, left-within)
-
-      pub right-scaled : Fits w64 ((left .used + 2) * 8)
-      right-scaled = omega (arith, left-within)
-
-      pub right-place-fits : Fits w64 (start + 2 + left .used)
-      right-place-fits = omega (arith, left-within)
-
-      pub both-fit : (from : ℕ) (sign′ : Bool) (so-far : Addends) (right : Pushed) → Pushes (tail (left .used + 2) ws) from sign′ so-far right → Fits w64 (left .used + 2 + right .used)
-      both-fit from sign′ so-far right q =
-          omega (arith, left-within, q .used-is, ap (λ (t : Expr). length (encode t)) (front-tree (tail (left .used + 2) ws) (sum .right) right-front), front-length (tail (left .used + 2) ws) (sum .right) right-front, length-tail (left .used + 2) ws)
-
-  pub sum-pushes : (start : ℕ) (sign : Bool) (out : Addends) (left : Pushed) → Pushes (tail 2 ws) (start + 2) sign out left
-      → (right : Pushed) → Pushes (tail (left .used + 2) ws) (start + 2 + left .used) sign (left .out) right
-      → Pushes ws start sign out (record { out = right .out; used = left .used + 2 + right .used })
-  unfolding encode placed
-  sum-pushes start sign out left p right q =
-      let n = used (start + 2) sign out left p in
-      let right-is = front-tree (tail (left .used + 2) ws) (sum .right) (right-front (start + 2) sign out left p) in
-      let is-add = eq-eqb (binaryNumber (sum .kind)) 2 (sym (sum .number-is) ∙ e) in
-      let all : placed (treeAt ws) start sign ≡ placed (treeAt (tail 2 ws)) (start + 2) sign ++ placed (treeAt (tail (left .used + 2) ws)) (start + 2 + left .used) sign =
-      ap (λ (t : Expr). placed t start sign) (sum .is)
-      ∙ ap (λ (b : Bool). if b then placed (sum .left) (start + 2) sign ++ placed (sum .right) (start + 2 + length (encode (sum .left))) sign else record { start = start; len = length (encode (binary (sum .kind) (sum .left) (sum .right))); negated = sign } ∷ []) is-add
-      ∙ ap (λ (m : ℕ). placed (sum .left) (start + 2) sign ++ placed (sum .right) (start + 2 + m) sign) (sym n)
-      ∙ ap (λ (t : Expr). placed t (start + 2) sign ++ placed (sum .right) (start + 2 + left .used) sign) (sym left-is)
-      ∙ ap (λ (t : Expr). placed (treeAt (tail 2 ws)) (start + 2) sign ++ placed t (start + 2 + left .used) sign) (sym right-is)
-      in
-      record {
-        used-is = omega (arith, n, q .used-is, ap (λ (t : Expr). length (encode t)) right-is, ap (λ (t : Expr). length (encode t)) (sum .is), length-append (encode (sum .left)) (encode (sum .right)));
-        added = subst (λ (l : List Addend). Added out l (right .out)) (sym all) (added-then (p .added) (q .added));
-      }
-
--- ---- a Neg
-
-module _ (ws : List ℕ) (s : Starts ws) (e : getD ws 0 0 ≡ 8) where
-  turned : UnaryNode ws (treeAt ws)
-  turned = unary-node ws One (sym (ap arityOf e ∙ number-arity (kinds.one Neg))) (treeAt ws) refl (starts-front ws s)
-
-  pub neg-starts : Starts (tail 2 ws)
-  neg-starts = record { tree = turned .child; front = turned .below }
-
-  module _ (start : ℕ) (sign : Bool) (out : Addends) (inner : Pushed) where
-    child-is : treeAt (tail 2 ws) ≡ turned .child
-    child-is = front-tree (tail 2 ws) (turned .child) (turned .below)
-
-    pub neg-fits : (at : ℕ) → Pushes (tail 2 ws) at sign out inner → length ws + start ≤ 1024 → Fits w64 (inner .used + 2)
-    neg-fits at p h = omega (arith, p .used-is, ap (λ (t : Expr). length (encode t)) child-is, front-length (tail 2 ws) (turned .child) (turned .below), length-tail 2 ws)
-
-    pub neg-pushes : Pushes (tail 2 ws) (start + 2) (not sign) out inner → Pushes ws start sign out (record { out = inner .out; used = inner .used + 2 })
-    unfolding encode placed
-    neg-pushes p =
-        let is-neg = neg-number (turned .kind) ∙ eq-eqb (unaryNumber (turned .kind)) 8 (sym (turned .number-is) ∙ e) in
-        let all : placed (treeAt ws) start sign ≡ placed (treeAt (tail 2 ws)) (start + 2) (not sign) =
-        ap (λ (t : Expr). placed t start sign) (turned .is)
-        ∙ ap (λ (b : Bool). if b then placed (turned .child) (start + 2) (not sign) else record { start = start; len = length (encode (unary (turned .kind) (turned .child))); negated = sign } ∷ []) is-neg
-        ∙ ap (λ (t : Expr). placed t (start + 2) (not sign)) (sym child-is)
-        in
-        record {
-          used-is = omega (arith, p .used-is, ap (λ (t : Expr). length (encode t)) child-is, ap (λ (t : Expr). length (encode t)) (turned .is));
-          added = subst (λ (l : List Addend). Added out l (inner .out)) (sym all) (p .added);
-        }
-
--- ---- any other node
-
-pub one-pushes : (ws : List ℕ) → Starts ws → (getD ws 0 0 ≡ 2 → ⊥) → (getD ws 0 0 ≡ 8 → ⊥) → (start n : ℕ) (sign : Bool) (out all : Addends) → n ≡ length (encode (treeAt ws))
-    → Added out (record { start = start; len = n; negated = sign } ∷ []) all → Pushes ws start sign out (record { out = all; used = n })
-one-pushes ws s p q start n sign out all e added =
-    let is : placed (treeAt ws) start sign ≡ record { start = start; len = n; negated = sign } ∷ [] =
-    single ws (treeAt ws) (starts-front ws s) p q start sign ∙ ap (λ (m : ℕ). record { start = start; len = m; negated = sign } ∷ []) (sym e)
-    in
-    record { used-is = e; added = subst (λ (l : List Addend). Added out l all) (sym is) added }
-
-pub ruleset pushing = (has-kind, has-node, child-falls, child-even, child-placed, child-room, has-room, left-starts, right-starts, left-within, right-falls, right-even, right-room, right-placed, right-fits, right-scaled, right-place-fits, both-fit, sum-pushes, neg-starts, neg-fits, neg-pushes, one-pushes)
 
 -- ---- where the addends stand
 
@@ -297,21 +150,324 @@ are-length ws (a ∷ more) (x ∷ xs) h = ap suc (are-length ws more xs (h .1))
 
 -- ---- `flatten_addends`
 
-module _ (ws : List ℕ) (x : Whole ws) where
-  pub whole-starts : Starts ws
-  whole-starts = record { tree = treeAt ws; front = exact-front ws (treeAt ws) x }
+-- a subtree that is still to be read, and whether it is subtracted
+pub record Owed : Type 0 where
+  pub negated : Bool
+  pub tree : Expr
 
-  pub whole-even : length ws % 2 ≡ 0
-  whole-even = omega (arith, exact-length ws (treeAt ws) x)
+unfoldable pub wordsOf : List Owed → List ℕ
+wordsOf [] = []
+wordsOf (o ∷ more) = encode (o .tree) ++ wordsOf more
 
-  pub flat : length ws ≤ 1024 → (list : List Addend) (r : Pushed) → Pushes ws 0 false (record { list = list; count = 0 }) r → IsFlat ws (r .out)
-  flat h list r p =
+unfoldable pub Sound : List Owed → Type 0
+Sound [] = Unit
+Sound (o ∷ more) = T (operandsOk (o .tree)) × Sound more
+
+-- the first one's sign stands last
+unfoldable pub SignsAre : List Owed → List Bool → Type 0
+SignsAre [] signs = Unit
+SignsAre (o ∷ more) signs = (getD signs (length more) false ≡ o .negated) × SignsAre more signs
+
+unfoldable pub placedAll : List Owed → ℕ → List Addend
+placedAll [] at = []
+placedAll (o ∷ more) at = placed (o .tree) at (o .negated) ++ placedAll more (at + length (encode (o .tree)))
+
+-- the words from `at` on are those of the subtrees due, and with their addends the list is complete
+pub record Gathered (ws : List ℕ) (list : List Addend) (count : ℕ) (signs : List Bool) (pending : List Owed) (at : ℕ) : Type 0 where
+  pub sound : Sound pending
+  pub words : drop at ws ≡ wordsOf pending
+  pub signs-are : SignsAre pending signs
+  pub all : placed (treeAt ws) 0 false ≡ take count list ++ placedAll pending at
+
+pub record Gathering (ws : List ℕ) (list : List Addend) (count : ℕ) (signs : List Bool) (due at : ℕ) : Type 0 where
+  pub whole : Whole ws
+  pub short : length ws ≤ 1024
+  pub within : at ≤ length ws
+  pub counted : count ≤ 256
+  pub has-list : length list ≡ 256
+  pub has-signs : length signs ≡ 512
+  pub pending : List Owed
+  pub due-is : due ≡ length pending
+  pub gathered : Gathered ws list count signs pending at
+
+-- each subtree has a node at least
+two-each : (l : List Owed) → 2 * length l ≤ length (wordsOf l)
+unfolding wordsOf
+two-each [] = omega arith
+two-each (o ∷ more) = omega (arith, two-each more, length-append (encode (o .tree)) (wordsOf more), length-encode (o .tree), nodes-pos (o .tree))
+
+even-words : (l : List Owed) → length (wordsOf l) % 2 ≡ 0
+unfolding wordsOf
+even-words [] = refl
+even-words (o ∷ more) = omega (arith, even-words more, length-append (encode (o .tree)) (wordsOf more), length-encode (o .tree))
+
+-- what is written behind the signs leaves them
+kept : (l : List Owed) (signs : List Bool) (i : ℕ) (b : Bool) → length l ≤ i → SignsAre l signs → SignsAre l (set signs i b)
+unfolding SignsAre
+kept [] signs i b h p = tt
+kept (o ∷ more) signs i b h p = (getD-set-other signs i (length more) b false (λ e. omega arith) ∙ p .0, kept more signs i b (omega arith) (p .1))
+
+record Split (l : List Owed) : Type 0 where
+  pub next : Owed
+  pub more : List Owed
+  pub is : l ≡ next ∷ more
+
+split : (l : List Owed) → 0 < length l → Split l
+split [] h = absurd (omega arith)
+split (o ∷ more) h = record { next = o; more = more; is = refl }
+
+none-due : (l : List Owed) → length l ≡ 0 → l ≡ []
+none-due [] h = refl
+none-due (o ∷ more) h = absurd (omega (arith, h))
+
+-- a turn, by the tree that is next
+module _ (ws : List ℕ) (list : List Addend) (count : ℕ) (signs : List Bool) (s : Bool) (more : List Owed) (at : ℕ) where
+  add-turn : (k : Binary) (l r : Expr) → binaryNumber k ≡ 2 → suc (length more) < length signs → Gathered ws list count signs (record { negated = s; tree = binary k l r } ∷ more) at
+      → Gathered ws list count (set signs (suc (length more)) s) (record { negated = s; tree = l } ∷ record { negated = s; tree = r } ∷ more) (at + 2)
+  unfolding encode operandsOk placed wordsOf Sound SignsAre placedAll
+  add-turn k l r e h g =
+      let ok = and-yes (operandsOk l) (operandsOk r) (g .sound .0) in
+      let n : at + length (encode (binary k l r)) ≡ at + 2 + length (encode l) + length (encode r) = omega (arith, length-append (encode l) (encode r)) in
+      record {
+        sound = (ok .0, (ok .1, g .sound .1));
+        words = sym (drop-drop 2 at ws) ∙ ap (λ (v : List ℕ). drop {A = ℕ} 2 v) (g .words) ∙ append-assoc (encode l) (encode r) (wordsOf more);
+        signs-are = (
+          getD-set-same signs (suc (length more)) s false h,
+          (getD-set-other signs (suc (length more)) (length more) s false (λ z. omega arith) ∙ g .signs-are .0, kept more signs (suc (length more)) s (omega arith) (g .signs-are .1)),
+        );
+        all =
+            g .all
+            ∙ ap (λ (b : Bool). take count list ++ ((if b then placed l (at + 2) s ++ placed r (at + 2 + length (encode l)) s else record { start = at; len = length (encode (binary k l r)); negated = s } ∷ []) ++ placedAll more (at + length (encode (binary k l r))))) (eq-eqb (binaryNumber k) 2 e)
+            ∙ ap (λ (v : List Addend). take count list ++ v) (append-assoc (placed l (at + 2) s) (placed r (at + 2 + length (encode l)) s) (placedAll more (at + length (encode (binary k l r)))))
+            ∙ ap (λ (i : ℕ). take count list ++ (placed l (at + 2) s ++ (placed r (at + 2 + length (encode l)) s ++ placedAll more i))) n;
+      }
+
+  neg-turn : (k : Unary) (t : Expr) → unaryNumber k ≡ 8 → length more < length signs → Gathered ws list count signs (record { negated = s; tree = unary k t } ∷ more) at
+      → Gathered ws list count (set signs (length more) (not s)) (record { negated = not s; tree = t } ∷ more) (at + 2)
+  unfolding encode operandsOk placed wordsOf Sound SignsAre placedAll
+  neg-turn k t e h g =
+      let n : at + length (encode (unary k t)) ≡ at + 2 + length (encode t) = omega arith in
+      record {
+        sound = (and-yes (operandOk (unaryNumber k) (unaryOperand k)) (operandsOk t) (g .sound .0) .1, g .sound .1);
+        words = sym (drop-drop 2 at ws) ∙ ap (λ (v : List ℕ). drop {A = ℕ} 2 v) (g .words);
+        signs-are = (getD-set-same signs (length more) (not s) false h, kept more signs (length more) (not s) (omega arith) (g .signs-are .1));
+        all =
+            g .all
+            ∙ ap (λ (b : Bool). take count list ++ ((if b then placed t (at + 2) (not s) else record { start = at; len = length (encode (unary k t)); negated = s } ∷ []) ++ placedAll more (at + length (encode (unary k t))))) (neg-number k ∙ eq-eqb (unaryNumber k) 8 e)
+            ∙ ap (λ (i : ℕ). take count list ++ (placed t (at + 2) (not s) ++ placedAll more i)) n;
+      }
+
+  one-turn : (t : Expr) → placed t at s ≡ record { start = at; len = length (encode t); negated = s } ∷ [] → count < length list → Gathered ws list count signs (record { negated = s; tree = t } ∷ more) at
+      → Gathered ws (set list count (record { start = at; len = length (encode t); negated = s })) (count + 1) signs more (at + length (encode t))
+  unfolding wordsOf Sound SignsAre placedAll
+  one-turn t e h g =
+      let a : Addend = record { start = at; len = length (encode t); negated = s } in
+      let rest : List Addend = placedAll more (at + length (encode t)) in
+      record {
+        sound = g .sound .1;
+        words = sym (drop-drop (length (encode t)) at ws) ∙ ap (drop (length (encode t))) (g .words) ∙ drop-at (encode t) (wordsOf more) (length (encode t)) refl;
+        signs-are = g .signs-are .1;
+        all =
+            g .all ∙ ap (λ (v : List Addend). take count list ++ (v ++ rest)) e ∙ sym (append-assoc (take count list) (a ∷ []) rest)
+            ∙ ap (λ (v : List Addend). v ++ rest) (sym (take-suc-set list count a h) ∙ ap (λ (i : ℕ). take i (set list count a)) (let z : suc count ≡ count + 1 = omega arith in z));
+      }
+
+pub gathering-first : (ws : List ℕ) → Whole ws → length ws ≤ 1024 → (a : Addend) → Gathering ws (replicate 256 a) 0 (replicate 512 false) 1 0
+unfolding wordsOf Sound SignsAre placedAll
+gathering-first ws x h a = record {
+  whole = x;
+  short = h;
+  within = omega arith;
+  counted = omega arith;
+  has-list = length-replicate {0} {A = Addend} 256 a;
+  has-signs = length-replicate {0} {A = Bool} 512 false;
+  pending = record { negated = false; tree = treeAt ws } ∷ [];
+  due-is = refl;
+  gathered = record {
+    sound = (x .operands, tt);
+    words = x .words ∙ sym (append-nil (encode (treeAt ws)));
+    signs-are = (getD-replicate 512 0 false false (omega arith), tt);
+    all = sym (append-nil (placed (treeAt ws) 0 false));
+  };
+}
+
+module _ (ws : List ℕ) (list : List Addend) (count : ℕ) (signs : List Bool) (due at : ℕ) (g : Gathering ws list count signs due at) where
+  -- all the addends of the tree
+  total : length (placed (treeAt ws) 0 false) ≤ 256
+  total = omega (arith, few (treeAt ws) 0 false, exact-length ws (treeAt ws) (g .whole), length-encode (treeAt ws), g .short)
+
+  pub gathering-done : due ≤ 0 → IsFlat ws (record { list = list; count = count })
+  unfolding placedAll
+  gathering-done h =
+      let e = none-due (g .pending) (omega (arith, g .due-is)) in
+      let x = g .whole in
+      let is : take count list ≡ placed (treeAt ws) 0 false = sym (g .gathered .all ∙ ap (λ (l : List Owed). take count list ++ placedAll l at) e ∙ append-nil (take count list)) in
       let f = exact-front ws (treeAt ws) x in
       let are = placed-are ws (treeAt ws) false [] (f .rest) 0 refl (f .words) (x .operands) in
       record {
-        few = omega (arith, p .added .counts, few (treeAt ws) 0 false, front-length ws (treeAt ws) f);
-        are = subst (λ (l : List Addend). AddendsAre ws l (flattenAddends (treeAt ws))) (sym (p .added .holds)) are;
-        counts = p .added .counts ∙ zero-add _ ∙ are-length ws (placed (treeAt ws) 0 false) (flattenAddends (treeAt ws)) are;
+        few = g .counted;
+        are = subst (λ (l : List Addend). AddendsAre ws l (flattenAddends (treeAt ws))) (sym is) are;
+        counts = sym (length-take-le count list (omega (arith, g .counted, g .has-list))) ∙ ap length is ∙ are-length ws (placed (treeAt ws) 0 false) (flattenAddends (treeAt ws)) are;
       }
 
-pub ruleset flattening = (whole-starts, whole-even, flat)
+  module _ (pos : 0 < due) where
+    abbrev here : Split (g .pending)
+    here = split (g .pending) (omega (arith, g .due-is))
+
+    abbrev more : List Owed
+    more = here .more
+
+    abbrev tree : Expr
+    tree = here .next .tree
+
+    abbrev sign : Bool
+    sign = here .next .negated
+
+    state : Gathered ws list count signs (record { negated = sign; tree = tree } ∷ more) at
+    state = subst (λ (l : List Owed). Gathered ws list count signs l at) (here .is) (g .gathered)
+
+    last : due ≡ suc (length more)
+    last = g .due-is ∙ ap length (here .is)
+
+    top : due - 1 ≡ length more
+    top = omega (arith, last)
+
+    left : length ws - at ≡ length (encode tree) + length (wordsOf more)
+    unfolding wordsOf
+    left = sym (length-drop at ws) ∙ ap length (state .words) ∙ length-append (encode tree) (wordsOf more)
+
+    front : Front (drop at ws) tree
+    unfolding wordsOf Sound
+    front = record { rest = wordsOf more; words = state .words; operands = state .sound .0 }
+
+    kind-is : getD (drop at ws) 0 0 ≡ getD ws at 0
+    kind-is = getD-drop at ws 0 0 ∙ ap (λ (i : ℕ). getD ws i 0) (let z : at + 0 ≡ at = omega arith in z)
+
+    sign-is : getD signs (due - 1) false ≡ sign
+    unfolding SignsAre
+    sign-is = ap (λ (i : ℕ). getD signs i false) top ∙ state .signs-are .0
+
+    -- the bounds of every turn
+    node-left : at + 2 ≤ length ws
+    node-left = omega (arith, left, g .within, length-encode tree, nodes-pos tree)
+
+    pub kind-left : at < length ws
+    kind-left = omega (arith, node-left)
+
+    pub place-fits : Fits w64 (at + 2)
+    place-fits = omega (arith, node-left, g .short)
+
+    pub turn-falls : length ws - (at + 2) < length ws - at
+    turn-falls = omega (arith, node-left)
+
+    pub top-below : due - 1 < 512
+    top-below = omega (arith, last, left, two-each more, length-encode tree, nodes-pos tree, g .short)
+
+    -- ---- an Add
+
+    module _ (e : getD ws at 0 ≡ 2) where
+      sum : BinaryNode (drop at ws) tree
+      sum = binary-node (drop at ws) Two (sym (ap arityOf (kind-is ∙ e) ∙ number-arity (kinds.two Add))) tree refl front
+
+      pub due-below : due < 512
+      unfolding encode
+      due-below =
+          omega (arith, last, left, two-each more, ap (λ (t : Expr). length (encode t)) (sum .is), length-append (encode (sum .left)) (encode (sum .right)), length-encode (sum .left), nodes-pos (sum .left), length-encode (sum .right), nodes-pos (sum .right), g .short)
+
+      pub due-fits : Fits w64 (due + 1)
+      due-fits = omega (arith, due-below)
+
+      pub gathering-add : Gathering ws list count (set signs due (getD signs (due - 1) false)) (due + 1) (at + 2)
+      gathering-add = record {
+        whole = g .whole;
+        short = g .short;
+        within = node-left;
+        counted = g .counted;
+        has-list = g .has-list;
+        has-signs = length-set signs due (getD signs (due - 1) false) ∙ g .has-signs;
+        pending = record { negated = sign; tree = sum .left } ∷ record { negated = sign; tree = sum .right } ∷ more;
+        due-is = omega (arith, last);
+        gathered = subst (λ (l : List Bool). Gathered ws list count l (record { negated = sign; tree = sum .left } ∷ record { negated = sign; tree = sum .right } ∷ more) (at + 2))
+            (ap (λ (i : ℕ). set signs i sign) (sym last) ∙ ap (set signs due) (sym sign-is))
+            (add-turn ws list count signs sign more at (sum .kind) (sum .left) (sum .right) (sym (sum .number-is) ∙ kind-is ∙ e) (omega (arith, last, due-below, g .has-signs))
+            (subst (λ (t : Expr). Gathered ws list count signs (record { negated = sign; tree = t } ∷ more) at) (sum .is) state));
+      }
+
+    -- ---- a Neg
+
+    module _ (e : getD ws at 0 ≡ 8) where
+      turned : UnaryNode (drop at ws) tree
+      turned = unary-node (drop at ws) One (sym (ap arityOf (kind-is ∙ e) ∙ number-arity (kinds.one Neg))) tree refl front
+
+      pub gathering-neg : Gathering ws list count (set signs (due - 1) (not (getD signs (due - 1) false))) due (at + 2)
+      gathering-neg = record {
+        whole = g .whole;
+        short = g .short;
+        within = node-left;
+        counted = g .counted;
+        has-list = g .has-list;
+        has-signs = length-set signs (due - 1) (not (getD signs (due - 1) false)) ∙ g .has-signs;
+        pending = record { negated = not sign; tree = turned .child } ∷ more;
+        due-is = last;
+        gathered = subst (λ (l : List Bool). Gathered ws list count l (record { negated = not sign; tree = turned .child } ∷ more) (at + 2))
+            (ap (λ (i : ℕ). set signs i (not sign)) (sym top) ∙ ap (λ (b : Bool). set signs (due - 1) (not b)) (sym sign-is))
+            (neg-turn ws list count signs sign more at (turned .kind) (turned .child) (sym (turned .number-is) ∙ kind-is ∙ e) (omega (arith, top, top-below, g .has-signs))
+            (subst (λ (t : Expr). Gathered ws list count signs (record { negated = sign; tree = t } ∷ more) at) (turned .is) state));
+      }
+
+    -- ---- any other node
+
+    behind : Front (tail at ws) tree
+    behind = subst (λ (l : List ℕ). Front l tree) (sym (tail-drop at ws)) front
+
+    pub behind-starts : Starts (tail at ws)
+    behind-starts = record { tree = tree; front = behind }
+
+    pub behind-even : length (tail at ws) % 2 ≡ 0
+    behind-even = omega (arith, length-tail at ws, left, length-encode tree, even-words more)
+
+    pub behind-short : length (tail at ws) ≤ 1024
+    behind-short = omega (arith, length-tail at ws, g .short)
+
+    module _ (no-add : getD ws at 0 ≡ 2 → ⊥) (no-neg : getD ws at 0 ≡ 8 → ⊥) where
+      one-placed : placed tree at sign ≡ record { start = at; len = length (encode tree); negated = sign } ∷ []
+      one-placed = single (drop at ws) tree front (λ e. no-add (sym kind-is ∙ e)) (λ e. no-neg (sym kind-is ∙ e)) at sign
+
+      pub count-below : count < 256
+      unfolding placedAll
+      count-below =
+          omega (arith, total, ap length (state .all), length-append (take count list) (placed tree at sign ++ placedAll more (at + length (encode tree))), length-append (placed tree at sign) (placedAll more (at + length (encode tree))), ap length one-placed, length-take-le count list (omega (arith, g .counted, g .has-list)))
+
+      pub count-fits : Fits w64 (count + 1)
+      count-fits = omega (arith, count-below)
+
+      pub count-scaled : Fits w64 (count * 24)
+      count-scaled = omega (arith, count-below)
+
+      module _ (n : ℕ) (n-is : n ≡ length (encode (treeAt (tail at ws)))) where
+        len-is : n ≡ length (encode tree)
+        len-is = n-is ∙ ap (λ (t : Expr). length (encode t)) (front-tree (tail at ws) tree behind)
+
+        pub past-fits : Fits w64 (at + n)
+        past-fits = omega (arith, len-is, left, g .within, g .short)
+
+        pub past-falls : length ws - (at + n) < length ws - at
+        past-falls = omega (arith, len-is, left, length-encode tree, nodes-pos tree)
+
+        pub gathering-one : Gathering ws (set list count (record { start = at; len = n; negated = getD signs (due - 1) false })) (count + 1) signs (due - 1) (at + n)
+        gathering-one = record {
+          whole = g .whole;
+          short = g .short;
+          within = omega (arith, len-is, left, g .within);
+          counted = omega (arith, count-below);
+          has-list = length-set list count _ ∙ g .has-list;
+          has-signs = g .has-signs;
+          pending = more;
+          due-is = top;
+          gathered =
+              subst (λ (b : Bool). Gathered ws (set list count (record { start = at; len = n; negated = b })) (count + 1) signs more (at + n)) (sym sign-is)
+              (subst (λ (m : ℕ). Gathered ws (set list count (record { start = at; len = m; negated = sign })) (count + 1) signs more (at + m)) (sym len-is)
+              (one-turn ws list count signs sign more at tree one-placed (omega (arith, count-below, g .has-list)) state));
+        }
+
+pub ruleset gathers = (gathering-first, gathering-done, kind-left, place-fits, turn-falls, top-below, due-below, due-fits, gathering-add, gathering-neg, behind-starts, behind-even, behind-short, count-below, count-fits, count-scaled, past-fits, past-falls, gathering-one)

@@ -26,7 +26,6 @@ use Rattle.atom_identity_rewrite.specs.declared.parts.Part.{Part}
 use Rattle.atom_identity_rewrite.specs.declared.parts.Operands.{Operands}
 use Rattle.atom_identity_rewrite.specs.declared.addends.Addend.{Addend}
 use Rattle.atom_identity_rewrite.specs.declared.addends.Addends.{Addends}
-use Rattle.atom_identity_rewrite.specs.declared.addends.Pushed.{Pushed}
 use Rattle.atom_identity_rewrite.specs.declared.candidate.Candidate.{Candidate}
 use Rattle.atom_identity_rewrite.specs.declared.candidate.Match.{Match}
 use Rattle.atom_identity_rewrite.specs.declared.candidate.Match.the-variants as matched
@@ -159,16 +158,6 @@ placed (binary k l r) at s =
 -- the addends that are in use
 abbrev pub inUse : Addends → List Addend
 inUse a = take (a .count) (a .list)
-
--- b holds what a holds, and then the addends more
-pub record Added (a : Addends) (more : List Addend) (b : Addends) : Type 0 where
-  pub counts : b .count ≡ a .count + length more
-  pub holds : inUse b ≡ inUse a ++ more
-
--- the addends of the tree that the words begin with were put behind those of `out`, and its words were counted
-pub record Pushes (ws : List ℕ) (start : ℕ) (negated : Bool) (out : Addends) (r : Pushed) : Type 0 where
-  pub used-is : r .used ≡ length (encode (treeAt ws))
-  pub added : Added out (placed (treeAt ws) start negated) (r .out)
 
 -- an addend of the list is the addend of the definition
 pub record AddendIs (ws : List ℕ) (a : Addend) (x : def.Addend) : Type 0 where

@@ -1,11 +1,11 @@
 // The addends of a sum. They are gathered in an array by value, which is copied into a list that is lent to the one function that reads it.
 ghost use mathlib.Core.Path.{_≡_};
-ghost use mathlib.Core.List.{[], _∷_, _++_};
-ghost use Prim.Native.Nat.{_+_, _*_, _%_, _≤_, _<_};
+ghost use mathlib.Core.List.{_++_};
+ghost use Prim.Native.Nat.{_%_, _≤_, _<_};
 ghost use lib.ListN.{length, take, drop, getD};
 ghost use Rattle.expr.specs.Front.{Starts, Whole, treeAt};
 ghost use Rattle.expr.specs.Expr.{encode};
-ghost use Rattle.atom_identity_rewrite.specs.Contracts.{noAddend, Added, Pushes, IsFlat, Addended, Carried};
+ghost use Rattle.atom_identity_rewrite.specs.Contracts.{noAddend, IsFlat, Addended, Carried};
 use crate::reading;
 use crate::reading::Reading;
 use expr::Counted;
@@ -24,65 +24,6 @@ pub(crate) struct Addends {
     pub count: usize,
 }
 
-// The addends so far, and how many words were read.
-pub(crate) struct Pushed {
-    pub out: Addends,
-    pub used: usize,
-}
-
-// Puts one addend at the end of the list.
-fn with_addend(out: Addends, a: Addend) -> Addends
-    requires { ⌜ out .count < 256 ⌝ }
-    ensures { λ r. ⌜ Added out (a ∷ []) r ⌝ }
-{
-    let at = out.count;
-    let mut next = out;
-    next.list[at] = a;
-    next.count = at + 1;
-    next
-}
-
-// Puts the addends of the tree that `words` begins with at the end of the list; `start` is the place of these words in the whole.
-fn push_addend(words: &[u64], start: usize, negated: bool, out: Addends) -> Pushed
-    requires { ⌜ Starts (now words) × (length (now words) % 2 ≡ 0) × (length (now words) + start ≤ 1024) × (4 * out .count + length (now words) ≤ 1024) ⌝ }
-    ensures { λ r. ⌜ Pushes (now (words .entry)) start negated out r ⌝ }
-{
-    let kind = words[0];
-    if kind == kind::ADD {
-        let left = push_addend(&words[2..], start + 2, negated, out);
-        let n = left.used;
-        let at = n + 2;
-        let so_far = left.out;
-        let right = push_addend(&words[at..], start + 2 + n, negated, so_far);
-        let all = right.out;
-        return Pushed {
-            out: all,
-            used: at + right.used,
-        };
-    }
-    if kind == kind::NEG {
-        let inner = push_addend(&words[2..], start + 2, !negated, out);
-        let all = inner.out;
-        return Pushed {
-            out: all,
-            used: inner.used + 2,
-        };
-    }
-    let len = length_of(words);
-    let all = with_addend(
-        out,
-        Addend {
-            start,
-            len,
-            negated,
-        },
-    );
-    Pushed {
-        out: all,
-        used: len,
-    }
-}
-
 // How many words the tree has that `words` begins with. They are a whole number of nodes, as `expr::span` refuses others.
 fn length_of(words: &[u64]) -> usize
     requires { ⌜ Starts (now words) × (length (now words) % 2 ≡ 0) × (length (now words) ≤ 1024) ⌝ }
@@ -95,7 +36,8 @@ fn length_of(words: &[u64]) -> usize
     }
 }
 
-// The addends of the tree that the words are, first to last.
+// The addends of the tree that the words are, first to last. `push_addend`'s recursion is a loop over the subtrees that are due: handing the array
+// on by value would copy it at every node.
 pub(crate) fn flatten_addends(words: &[u64]) -> Addends
     requires { ⌜ Whole (now words) × (length (now words) ≤ 1024) ⌝ }
     ensures { λ r. ⌜ IsFlat (now (words .entry)) r ⌝ }
@@ -105,12 +47,37 @@ pub(crate) fn flatten_addends(words: &[u64]) -> Addends
         len: 0,
         negated: false,
     };
-    let out = Addends {
-        list: [none; 256],
-        count: 0,
-    };
-    let all = push_addend(words, 0, false, out);
-    all.out
+    let mut list = [none; 256];
+    let mut count = 0;
+    // whether each subtree that is due is subtracted, the next one last
+    let mut signs = [false; 512];
+    let mut due = 1;
+    let mut at = 0;
+    while due > 0 {
+        let kind = words[at];
+        let top = due - 1;
+        let negated = signs[top];
+        if kind == kind::ADD {
+            // the left operand is next, the right one keeps the place
+            signs[due] = negated;
+            due += 1;
+            at += 2;
+        } else if kind == kind::NEG {
+            signs[top] = !negated;
+            at += 2;
+        } else {
+            let len = length_of(&words[at..]);
+            list[count] = Addend {
+                start: at,
+                len,
+                negated,
+            };
+            count += 1;
+            due = top;
+            at += len;
+        }
+    }
+    Addends { list, count }
 }
 
 // The addend at a place of the array.

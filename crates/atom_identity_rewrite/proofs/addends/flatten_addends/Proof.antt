@@ -1,10 +1,48 @@
--- `flatten_addends` meets its contract. Assumes nothing.
+-- `flatten_addends` meets its contract. The measure is the number of words left. Assumes nothing.
+use Prim.Native.Nat.{_-_}
+use lib.ListN.{length}
 use borrow.Author.Needs.{needs}
+use Rattle.atom_identity_rewrite.proofs.AddendLaws.{Gathering, gathers}
 use Rattle.atom_identity_rewrite.proofs.addends.flatten_addends.Statement.{statement}
 use Rattle.atom_identity_rewrite.proofs.addends.flatten_addends.Tie as tie
-use Rattle.atom_identity_rewrite.proofs.AddendLaws.{flattening}
 
-ruleset rules = (needs, flattening)
+abbrev Inv-loop : tie.InvT-loop
+Inv-loop words list₀ count₀ signs₀ due₀ at₀ list count signs due at = Gathering words list count signs due at
+
+abbrev μ-loop : tie.MeasureT-loop
+μ-loop words list₀ count₀ signs₀ due₀ at₀ list count signs due at = length words - at
+
+ruleset rules = (needs, gathers)
 
 pub flatten-addends-spec : {M : Type 1} → statement M
-flatten-addends-spec = tie.close (tie.spec (λ c κs. search rules) (λ c. search rules))
+flatten-addends-spec =
+    tie.close
+    (tie.spec
+    Inv-loop
+    μ-loop
+    (λ c. search rules)
+    (λ c. search rules)
+    (λ c. search rules)
+    (λ c. search rules)
+    (λ c. search rules)
+    (λ c. search rules)
+    (λ c. search rules)
+    (λ c. search rules)
+    (λ c. search rules)
+    (λ c. search rules)
+    (λ c. search rules)
+    (λ c. search rules)
+    (λ c. search rules)
+    (λ c. search rules)
+    (λ c. search rules)
+    (λ c. search rules)
+    (λ c. search rules)
+    (λ c. search rules)
+    (λ c κs. search rules)
+    (λ c. search rules)
+    (λ c. search rules)
+    (λ c. search rules)
+    (λ c. search rules)
+    (λ c. search rules)
+    (λ c. search rules)
+    (λ c. search rules))
