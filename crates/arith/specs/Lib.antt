@@ -6,3 +6,4 @@ pub mod TableLaws
 pub mod BvLaws
 pub mod SumLaws
 pub mod ArithLaws
+pub mod NeedLaws

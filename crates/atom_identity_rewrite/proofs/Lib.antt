@@ -1,4 +1,3 @@
-pub mod Basics
 pub mod StandLaws
 pub mod NodeLaws
 pub mod OrLaws

@@ -52,29 +52,29 @@ pub(crate) fn flatten_addends(words: &[u64]) -> Addends
     // whether each subtree that is due is subtracted, the next one last
     let mut signs = [false; 512];
     let mut due = 1;
-    let mut at = 0;
+    let mut start = 0;
     while due > 0 {
-        let kind = words[at];
+        let kind = words[start];
         let top = due - 1;
         let negated = signs[top];
         if kind == kind::ADD {
             // the left operand is next, the right one keeps the place
             signs[due] = negated;
             due += 1;
-            at += 2;
+            start += 2;
         } else if kind == kind::NEG {
             signs[top] = !negated;
-            at += 2;
+            start += 2;
         } else {
-            let len = length_of(&words[at..]);
+            let len = length_of(&words[start..]);
             list[count] = Addend {
-                start: at,
+                start,
                 len,
                 negated,
             };
             count += 1;
             due = top;
-            at += len;
+            start += len;
         }
     }
     Addends { list, count }

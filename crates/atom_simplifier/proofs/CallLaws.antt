@@ -17,7 +17,7 @@ use Rattle.expr.specs.declared.Counted.{Counted}
 use Rattle.expr.specs.declared.Counted.the-variants as counted
 use Rattle.expr.specs.Refusals.{refusal, reasonOf}
 use Rattle.expr.specs.Outcome.{Outcome, refused, accepted, mapped, _andThen_}
-use Rattle.expr.specs.OutcomeLaws.{then-accepted, mapped-accepted, Made, mapped-made, refused-then, refused-mapped}
+use Rattle.expr.specs.OutcomeLaws.{then-accepted, mapped-accepted, mapped-made, refused-then, refused-mapped}
 use Rattle.expr.specs.Expr.{Expr, encode, nodes, depth}
 use Rattle.expr.specs.ExprLaws.{length-encode}
 use Rattle.expr.specs.Parse.{parse}
@@ -26,7 +26,9 @@ use Rattle.expr.specs.Answers.{countedOutcome}
 use Rattle.expr.specs.Front.{Starts, Exactly, Whole, treeAt}
 use Rattle.expr.specs.PartLaws.{exact-front, exact-tree, exact-whole}
 use Rattle.width.specs.Width.{supported}
-use Rattle.width.specs.WidthLaws.{in-range, too-narrow, too-wide, supported-is}
+use Rattle.width.specs.Checked.{checked}
+use Rattle.width.specs.CheckedLaws.{checked-then, Tree, checked-tree}
+use Rattle.width.specs.WidthLaws.{supported-is}
 use Rattle.rewriting.specs.Optional.{map}
 use Rattle.rewriting.specs.AtomSimplifier as def
 use Rattle.rewriting.specs.AtomSimplifier.{localRewrite, firstSite}
@@ -44,52 +46,37 @@ use Rattle.atom_simplifier.proofs.SearchLaws.{none-is, found-is}
 
 -- ---- `admit`
 
-module _ (ws : List ℕ) (w room : ℕ) where
-  refused-1 : supported w ≡ false → refused (refusal 1) ≡ mapped nodes (admitted ws w room)
+module _ (ws : List ℕ) (w room : ℕ) (x : Counted) (h : countedOutcome x ≡ mapped nodes (checked w ws)) where
+  asked : (checked w ws andThen withRoom room) ≡ admitted ws w room
   unfolding admitted
-  refused-1 e = rw e
+  asked = sym (checked-then w ws (λ o. o andThen withRoom room) refl)
 
-  pub narrow-refused : w < 1 → refused (refusal 1) ≡ mapped nodes (admitted ws w room)
-  narrow-refused h = refused-1 (sym (too-narrow w h))
+  pub words-refused : (r : Refusal) → x ≡ counted.Refused r → refused (reasonOf r) ≡ mapped nodes (admitted ws w room)
+  words-refused r e = ap (mapped nodes) (refused-then nodes (withRoom room) (checked w ws) (ap countedOutcome (sym e) ∙ h) ∙ asked)
 
-  module _ (p : 1 ≤ w) where
-    pub wide-refused : 65 ≤ w → refused (refusal 1) ≡ mapped nodes (admitted ws w room)
-    wide-refused h = refused-1 (sym (too-wide w p h))
+  module _ (n : ℕ) (e : x ≡ counted.Count n) where
+    m : Tree w ws n
+    m = checked-tree w ws x h n e
 
-    module _ (q : w < 65) (x : Counted) (h : countedOutcome x ≡ mapped nodes (parse ws)) where
-      asked : (parse ws andThen withRoom room) ≡ admitted ws w room
-      unfolding admitted
-      asked = rw (sym (in-range w p q))
+    roomed : (b : Bool) → ltb room (2 * (n + 1)) ≡ b → admitted ws w room ≡ (if b then refused (refusal 9) else accepted (m .tree))
+    unfolding withRoom
+    roomed b f =
+        sym asked ∙ then-accepted (m .is) (withRoom room)
+        ∙ ap (λ (c : Bool). if c then refused (refusal 9) else accepted (m .tree)) (ap (λ (i : ℕ). ltb room (2 * (i + 1))) (m .count) ∙ f)
 
-      pub words-refused : (r : Refusal) → x ≡ counted.Refused r → refused (reasonOf r) ≡ mapped nodes (admitted ws w room)
-      words-refused r e = ap (mapped nodes) (refused-then nodes (withRoom room) (parse ws) (ap countedOutcome (sym e) ∙ h) ∙ asked)
+    pub room-refused : room < 2 * (n + 1) → refused (refusal 9) ≡ mapped nodes (admitted ws w room)
+    room-refused f = sym (ap (mapped nodes) (roomed true (lt-ltb room (2 * (n + 1)) f)))
 
-      module _ (n : ℕ) (e : x ≡ counted.Count n) where
-        m : Made nodes (parse ws) n
-        m = mapped-made nodes (parse ws) (ap countedOutcome (sym e) ∙ h)
+    pub admits : 2 * (n + 1) ≤ room → accepted n ≡ mapped nodes (admitted ws w room)
+    admits f = sym (ap (mapped nodes) (roomed false (le-ltb room (2 * (n + 1)) f)) ∙ ap accepted (m .count))
 
-        roomed : (b : Bool) → ltb room (2 * (n + 1)) ≡ b → admitted ws w room ≡ (if b then refused (refusal 9) else accepted (m .answer))
-        unfolding withRoom
-        roomed b f =
-            sym asked ∙ then-accepted (m .was) (withRoom room)
-            ∙ ap (λ (c : Bool). if c then refused (refusal 9) else accepted (m .answer)) (ap (λ (i : ℕ). ltb room (2 * (i + 1))) (m .made) ∙ f)
+    pub count-fits : Fits w64 (n + 1)
+    count-fits = omega (arith, m .few)
 
-        pub room-refused : room < 2 * (n + 1) → refused (refusal 9) ≡ mapped nodes (admitted ws w room)
-        room-refused f = sym (ap (mapped nodes) (roomed true (lt-ltb room (2 * (n + 1)) f)))
+    pub room-fits : Fits w64 (2 * (n + 1))
+    room-fits = omega (arith, m .few)
 
-        pub admits : 2 * (n + 1) ≤ room → accepted n ≡ mapped nodes (admitted ws w room)
-        admits f = sym (ap (mapped nodes) (roomed false (le-ltb room (2 * (n + 1)) f)) ∙ ap accepted (m .made))
-
-        count-most : n ≤ 512
-        count-most = omega (arith, m .made, parse-sound ws (m .answer) (m .was) .valid .count)
-
-        pub count-fits : Fits w64 (n + 1)
-        count-fits = omega (arith, count-most)
-
-        pub room-fits : Fits w64 (2 * (n + 1))
-        room-fits = omega (arith, count-most)
-
-pub ruleset admitting = (narrow-refused, wide-refused, words-refused, room-refused, admits, count-fits, room-fits)
+pub ruleset admitting = (words-refused, room-refused, admits, count-fits, room-fits)
 
 -- ---- a tree that was admitted
 

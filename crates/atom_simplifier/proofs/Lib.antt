@@ -1,4 +1,3 @@
-pub mod Basics
 pub mod OperandLaws
 pub mod ArmLaws
 pub mod DecideLaws

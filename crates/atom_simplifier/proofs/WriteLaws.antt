@@ -1,17 +1,16 @@
 -- Writing words at the front of lent ones. Assumes nothing.
-use mathlib.Core.Path.{_≡_, refl, sym, ap, ap₂, subst, _∙_}
+use mathlib.Core.Path.{_≡_, refl, sym, ap, subst, _∙_}
 use mathlib.Core.Bool.{Bool}
-use mathlib.Core.List.{List, [], _∷_, _++_, append-assoc, append-nil}
+use mathlib.Core.List.{List, [], _∷_, _++_}
 use Prim.Native.Nat.{ℕ, zero, suc, _+_, _-_, _≤_, _<_}
 use native.Mathlib.Nat.{not-suc-le-zero, le-of-suc-le-suc}
 use native.Mathlib.Omega.{arith}
-use lib.ListN.{length, take, drop, getD, set, length-append, length-drop, length-set, drop-of-length-le}
-use lib.Seq.{take-at, drop-at, drop-drop, take-all, length-take-le}
+use lib.ListN.{length, take, drop, getD, set, length-drop, length-set}
+use lib.Seq.{take-all, length-take-le}
 use borrow.Author.Tests.{ne-eqb}
 use borrow.Rule.Slice.PartMut.{putMid}
 use Rattle.arith.specs.Choice.{if_then_else_}
 use Rattle.expr.specs.Parts.{tail, part}
-use Rattle.expr.specs.TailLaws.{tail-drop}
 use Rattle.expr.specs.Lent.{Laid}
 use Rattle.expr.specs.LentLaws.{laid-length, laid-on}
 use Rattle.atom_simplifier.specs.Contracts.{copied, dualNumber}

@@ -42,11 +42,7 @@ pub enum SiteAnswer {
 fn admit(words: &[u64], width: u32, room: usize) -> Counted
     ensures { λ r. ⌜ countedOutcome r ≡ mapped nodes (admitted (now (words .entry)) width room) ⌝ }
 {
-    match width {
-        1..=64 => {}
-        _ => return Counted::Refused(Refusal::WidthOutOfRange),
-    }
-    match expr::check_tree(words) {
+    match width::check_tree_at(words, width) {
         Counted::Refused(r) => Counted::Refused(r),
         Counted::Count(n) => {
             if room < 2 * (n + 1) {

@@ -1,5 +1,5 @@
 -- `atom_identity_rewrite::admit` meets its contract. Assumes nothing.
-use Rattle.atom_identity_rewrite.proofs.Basics.{basics}
+use Rattle.arith.specs.NeedLaws.{basics}
 use Rattle.atom_identity_rewrite.proofs.CallLaws.{admitting}
 use Rattle.atom_identity_rewrite.proofs.admit.Statement.{statement}
 use Rattle.atom_identity_rewrite.proofs.admit.Tie as tie

@@ -1,5 +1,5 @@
 -- `atom_identity_rewrite::find_candidate` meets its contract. Assumes nothing.
-use Rattle.atom_identity_rewrite.proofs.Basics.{basics}
+use Rattle.arith.specs.NeedLaws.{basics}
 use Rattle.atom_identity_rewrite.proofs.CallLaws.{tags}
 use Rattle.atom_identity_rewrite.proofs.find_candidate.Statement.{statement}
 use Rattle.atom_identity_rewrite.proofs.find_candidate.Tie as tie

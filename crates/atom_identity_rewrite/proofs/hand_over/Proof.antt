@@ -1,5 +1,5 @@
 -- `atom_identity_rewrite::hand_over` meets its contract. Assumes nothing.
-use Rattle.atom_identity_rewrite.proofs.Basics.{basics}
+use Rattle.arith.specs.NeedLaws.{basics}
 use Rattle.atom_identity_rewrite.proofs.CallLaws.{handing}
 use Rattle.atom_identity_rewrite.proofs.hand_over.Statement.{statement}
 use Rattle.atom_identity_rewrite.proofs.hand_over.Tie as tie

@@ -1,5 +1,5 @@
 -- `atom_identity_rewrite::offer_absorb` meets its contract. Assumes nothing.
-use Rattle.atom_identity_rewrite.proofs.Basics.{basics}
+use Rattle.arith.specs.NeedLaws.{basics}
 use Rattle.atom_identity_rewrite.proofs.CallLaws.{rooted}
 use Rattle.atom_identity_rewrite.proofs.offer_absorb.Statement.{statement}
 use Rattle.atom_identity_rewrite.proofs.offer_absorb.Tie as tie

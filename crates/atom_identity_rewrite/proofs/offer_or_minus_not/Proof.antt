@@ -1,5 +1,5 @@
 -- `atom_identity_rewrite::offer_or_minus_not` meets its contract. Assumes nothing.
-use Rattle.atom_identity_rewrite.proofs.Basics.{basics}
+use Rattle.arith.specs.NeedLaws.{basics}
 use Rattle.atom_identity_rewrite.proofs.CallLaws.{rooted}
 use Rattle.atom_identity_rewrite.proofs.offer_or_minus_not.Statement.{statement}
 use Rattle.atom_identity_rewrite.proofs.offer_or_minus_not.Tie as tie

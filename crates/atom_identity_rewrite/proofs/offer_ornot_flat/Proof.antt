@@ -1,5 +1,5 @@
 -- `atom_identity_rewrite::offer_ornot_flat` meets its contract. Assumes nothing.
-use Rattle.atom_identity_rewrite.proofs.Basics.{basics}
+use Rattle.arith.specs.NeedLaws.{basics}
 use Rattle.atom_identity_rewrite.proofs.CallLaws.{rooted}
 use Rattle.atom_identity_rewrite.proofs.offer_ornot_flat.Statement.{statement}
 use Rattle.atom_identity_rewrite.proofs.offer_ornot_flat.Tie as tie

@@ -1,5 +1,5 @@
 -- `atom_identity_rewrite::offer_plus_one` meets its contract. Assumes nothing.
-use Rattle.atom_identity_rewrite.proofs.Basics.{basics}
+use Rattle.arith.specs.NeedLaws.{basics}
 use Rattle.atom_identity_rewrite.proofs.CallLaws.{rooted}
 use Rattle.atom_identity_rewrite.proofs.offer_plus_one.Statement.{statement}
 use Rattle.atom_identity_rewrite.proofs.offer_plus_one.Tie as tie

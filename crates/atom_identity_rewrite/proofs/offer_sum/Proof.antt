@@ -1,5 +1,5 @@
 -- `atom_identity_rewrite::offer_sum` meets its contract. Assumes nothing.
-use Rattle.atom_identity_rewrite.proofs.Basics.{basics}
+use Rattle.arith.specs.NeedLaws.{basics}
 use Rattle.atom_identity_rewrite.proofs.CallLaws.{tags}
 use Rattle.atom_identity_rewrite.proofs.offer_sum.Statement.{statement}
 use Rattle.atom_identity_rewrite.proofs.offer_sum.Tie as tie

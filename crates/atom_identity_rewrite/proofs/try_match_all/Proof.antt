@@ -1,5 +1,5 @@
 -- `atom_identity_rewrite::try_match_all` meets its contract. Assumes nothing.
-use Rattle.atom_identity_rewrite.proofs.Basics.{basics}
+use Rattle.arith.specs.NeedLaws.{basics}
 use Rattle.atom_identity_rewrite.proofs.CallLaws.{calls}
 use Rattle.atom_identity_rewrite.proofs.try_match_all.Statement.{statement}
 use Rattle.atom_identity_rewrite.proofs.try_match_all.Tie as tie

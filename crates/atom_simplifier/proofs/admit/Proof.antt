@@ -1,5 +1,5 @@
 -- `atom_simplifier::admit` meets its contract. Assumes nothing.
-use Rattle.atom_simplifier.proofs.Basics.{basics}
+use Rattle.arith.specs.NeedLaws.{basics}
 use Rattle.atom_simplifier.proofs.CallLaws.{admitting}
 use Rattle.atom_simplifier.proofs.admit.Statement.{statement}
 use Rattle.atom_simplifier.proofs.admit.Tie as tie
@@ -10,8 +10,6 @@ pub admit-spec : {M : Type 1} → statement M
 admit-spec =
     tie.close
     (tie.spec
-    (λ c. search rules)
-    (λ c. search rules)
     (λ c κs. search rules)
     (λ c. search rules)
     (λ c. search rules)

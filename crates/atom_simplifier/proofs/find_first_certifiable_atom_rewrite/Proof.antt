@@ -1,5 +1,5 @@
 -- `atom_simplifier::find_first_certifiable_atom_rewrite` meets its contract. Assumes nothing.
-use Rattle.atom_simplifier.proofs.Basics.{basics}
+use Rattle.arith.specs.NeedLaws.{basics}
 use Rattle.atom_simplifier.proofs.CallLaws.{siteCall}
 use Rattle.atom_simplifier.proofs.find_first_certifiable_atom_rewrite.Statement.{statement}
 use Rattle.atom_simplifier.proofs.find_first_certifiable_atom_rewrite.Tie as tie

@@ -1,5 +1,5 @@
 -- `atom_simplifier::local_certifiable_atom_rewrite` meets its contract. Assumes nothing.
-use Rattle.atom_simplifier.proofs.Basics.{basics}
+use Rattle.arith.specs.NeedLaws.{basics}
 use Rattle.atom_simplifier.proofs.CallLaws.{localCall}
 use Rattle.atom_simplifier.proofs.local_certifiable_atom_rewrite.Statement.{statement}
 use Rattle.atom_simplifier.proofs.local_certifiable_atom_rewrite.Tie as tie

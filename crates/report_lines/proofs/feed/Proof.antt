@@ -1,6 +1,6 @@
 -- `report_lines::feed` meets its contract. Assumes nothing.
 use Rattle.report_lines.proofs.FeedLaws.{calls}
-use Rattle.atom_simplifier.proofs.Basics.{basics}
+use Rattle.arith.specs.NeedLaws.{basics}
 use Rattle.report_lines.proofs.feed.Statement.{statement}
 use Rattle.report_lines.proofs.feed.Tie as tie
 

@@ -2,7 +2,7 @@
 use Prim.Native.Nat.{_-_}
 use lib.ListN.{length}
 use Rattle.report_lines.proofs.FeedLaws.{Feeding, feeding, more-fed}
-use Rattle.atom_simplifier.proofs.Basics.{basics}
+use Rattle.arith.specs.NeedLaws.{basics}
 use Rattle.report_lines.proofs.feed_lines.Statement.{statement}
 use Rattle.report_lines.proofs.feed_lines.Tie as tie
 

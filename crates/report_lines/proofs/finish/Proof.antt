@@ -1,6 +1,6 @@
 -- `report_lines::finish` meets its contract. Assumes nothing.
 use Rattle.report_lines.proofs.FeedLaws.{calls}
-use Rattle.atom_simplifier.proofs.Basics.{basics}
+use Rattle.arith.specs.NeedLaws.{basics}
 use Rattle.report_lines.proofs.finish.Statement.{statement}
 use Rattle.report_lines.proofs.finish.Tie as tie
 

@@ -1,6 +1,6 @@
 -- `report_lines::finish_lines` meets its contract. Assumes nothing.
 use Rattle.report_lines.proofs.FeedLaws.{finishing}
-use Rattle.atom_simplifier.proofs.Basics.{basics}
+use Rattle.arith.specs.NeedLaws.{basics}
 use Rattle.report_lines.proofs.finish_lines.Statement.{statement}
 use Rattle.report_lines.proofs.finish_lines.Tie as tie
 

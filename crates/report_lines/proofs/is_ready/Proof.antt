@@ -1,6 +1,6 @@
 -- `report_lines::is_ready` meets its contract. Assumes nothing.
 use Rattle.report_lines.proofs.ReadyLaws.{sound-state}
-use Rattle.atom_simplifier.proofs.Basics.{basics}
+use Rattle.arith.specs.NeedLaws.{basics}
 use Rattle.report_lines.proofs.is_ready.Statement.{statement}
 use Rattle.report_lines.proofs.is_ready.Tie as tie
 

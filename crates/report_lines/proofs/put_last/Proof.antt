@@ -1,6 +1,6 @@
 -- `report_lines::put_last` meets its contract. Assumes nothing.
 use Rattle.report_lines.proofs.FeedLaws.{last-rules}
-use Rattle.atom_simplifier.proofs.Basics.{basics}
+use Rattle.arith.specs.NeedLaws.{basics}
 use Rattle.report_lines.proofs.put_last.Statement.{statement}
 use Rattle.report_lines.proofs.put_last.Tie as tie
 

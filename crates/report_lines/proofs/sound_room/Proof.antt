@@ -1,6 +1,6 @@
 -- `report_lines::sound_room` meets its contract. Assumes nothing.
 use Rattle.report_lines.proofs.ReadyLaws.{sound-places}
-use Rattle.atom_simplifier.proofs.Basics.{basics}
+use Rattle.arith.specs.NeedLaws.{basics}
 use Rattle.report_lines.proofs.sound_room.Statement.{statement}
 use Rattle.report_lines.proofs.sound_room.Tie as tie
 

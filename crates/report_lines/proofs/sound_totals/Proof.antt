@@ -1,6 +1,6 @@
 -- `report_lines::sound_totals` meets its contract. Assumes nothing.
 use Rattle.report_lines.proofs.ReadyLaws.{sound-sums}
-use Rattle.atom_simplifier.proofs.Basics.{basics}
+use Rattle.arith.specs.NeedLaws.{basics}
 use Rattle.report_lines.proofs.sound_totals.Statement.{statement}
 use Rattle.report_lines.proofs.sound_totals.Tie as tie
 

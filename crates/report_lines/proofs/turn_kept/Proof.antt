@@ -1,6 +1,6 @@
 -- `report_lines::turn_kept` meets its contract. Assumes nothing.
 use Rattle.report_lines.proofs.StepLaws.{turning}
-use Rattle.atom_simplifier.proofs.Basics.{basics}
+use Rattle.arith.specs.NeedLaws.{basics}
 use Rattle.report_lines.proofs.turn_kept.Statement.{statement}
 use Rattle.report_lines.proofs.turn_kept.Tie as tie
 

@@ -7,10 +7,10 @@ use Rattle.atom_identity_rewrite.proofs.addends.flatten_addends.Stateme
 use Rattle.atom_identity_rewrite.proofs.addends.flatten_addends.Tie as tie
 
 abbrev Inv-loop : tie.InvT-loop
-Inv-loop words list₀ count₀ signs₀ due₀ at₀ list count signs due at = Gathering words list count signs due at
+Inv-loop words list₀ count₀ signs₀ due₀ start₀ list count signs due start = Gathering words list count signs due start
 
 abbrev μ-loop : tie.MeasureT-loop
-μ-loop words list₀ count₀ signs₀ due₀ at₀ list count signs due at = length words - at
+μ-loop words list₀ count₀ signs₀ due₀ start₀ list count signs due start = length words - start
 
 ruleset rules = (needs, gathers)
 

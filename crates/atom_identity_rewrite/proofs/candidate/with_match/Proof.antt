@@ -1,5 +1,5 @@
 -- `atom_identity_rewrite::candidate::with_match` meets its contract. Assumes nothing.
-use Rattle.atom_identity_rewrite.proofs.Basics.{basics}
+use Rattle.arith.specs.NeedLaws.{basics}
 use Rattle.atom_identity_rewrite.proofs.OfferLaws.{offering}
 use Rattle.atom_identity_rewrite.proofs.candidate.with_match.Statement.{statement}
 use Rattle.atom_identity_rewrite.proofs.candidate.with_match.Tie as tie

@@ -1,5 +1,5 @@
 -- `atom_identity_rewrite::matchers::and_beside` meets its contract. Assumes nothing.
-use Rattle.atom_identity_rewrite.proofs.Basics.{basics}
+use Rattle.arith.specs.NeedLaws.{basics}
 use Rattle.atom_identity_rewrite.proofs.MatcherLaws.{besides}
 use Rattle.atom_identity_rewrite.proofs.matchers.and_beside.Statement.{statement}
 use Rattle.atom_identity_rewrite.proofs.matchers.and_beside.Tie as tie

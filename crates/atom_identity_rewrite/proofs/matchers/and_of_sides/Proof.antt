@@ -1,5 +1,5 @@
 -- `atom_identity_rewrite::matchers::and_of_sides` meets its contract. Assumes nothing.
-use Rattle.atom_identity_rewrite.proofs.Basics.{basics}
+use Rattle.arith.specs.NeedLaws.{basics}
 use Rattle.atom_identity_rewrite.proofs.MatcherLaws.{orNots}
 use Rattle.atom_identity_rewrite.proofs.matchers.and_of_sides.Statement.{statement}
 use Rattle.atom_identity_rewrite.proofs.matchers.and_of_sides.Tie as tie

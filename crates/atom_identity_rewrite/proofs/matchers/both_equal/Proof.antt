@@ -1,5 +1,5 @@
 -- `atom_identity_rewrite::matchers::both_equal` meets its contract. Assumes nothing.
-use Rattle.atom_identity_rewrite.proofs.Basics.{basics}
+use Rattle.arith.specs.NeedLaws.{basics}
 use Rattle.atom_identity_rewrite.proofs.MatcherLaws.{tests}
 use Rattle.atom_identity_rewrite.proofs.matchers.both_equal.Statement.{statement}
 use Rattle.atom_identity_rewrite.proofs.matchers.both_equal.Tie as tie

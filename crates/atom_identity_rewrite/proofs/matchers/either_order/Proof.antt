@@ -1,5 +1,5 @@
 -- `atom_identity_rewrite::matchers::either_order` meets its contract. Assumes nothing.
-use Rattle.atom_identity_rewrite.proofs.Basics.{basics}
+use Rattle.arith.specs.NeedLaws.{basics}
 use Rattle.atom_identity_rewrite.proofs.MatcherLaws.{tests}
 use Rattle.atom_identity_rewrite.proofs.matchers.either_order.Statement.{statement}
 use Rattle.atom_identity_rewrite.proofs.matchers.either_order.Tie as tie

@@ -1,5 +1,5 @@
 -- `atom_identity_rewrite::matchers::exprs_equal_as_unordered_pair` meets its contract. Assumes nothing.
-use Rattle.atom_identity_rewrite.proofs.Basics.{basics}
+use Rattle.arith.specs.NeedLaws.{basics}
 use Rattle.atom_identity_rewrite.proofs.MatcherLaws.{tests}
 use Rattle.atom_identity_rewrite.proofs.matchers.exprs_equal_as_unordered_pair.Statement.{statement}
 use Rattle.atom_identity_rewrite.proofs.matchers.exprs_equal_as_unordered_pair.Tie as tie

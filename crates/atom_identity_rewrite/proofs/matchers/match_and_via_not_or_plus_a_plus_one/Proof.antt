@@ -1,5 +1,5 @@
 -- `atom_identity_rewrite::matchers::match_and_via_not_or_plus_a_plus_one` meets its contract. Assumes nothing.
-use Rattle.atom_identity_rewrite.proofs.Basics.{basics}
+use Rattle.arith.specs.NeedLaws.{basics}
 use Rattle.atom_identity_rewrite.proofs.ReadLaws.{going}
 use Rattle.atom_identity_rewrite.proofs.matchers.match_and_via_not_or_plus_a_plus_one.Statement.{statement}
 use Rattle.atom_identity_rewrite.proofs.matchers.match_and_via_not_or_plus_a_plus_one.Tie as tie

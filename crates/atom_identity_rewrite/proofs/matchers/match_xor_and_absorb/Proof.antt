@@ -1,5 +1,5 @@
 -- `atom_identity_rewrite::matchers::match_xor_and_absorb` meets its contract. Assumes nothing.
-use Rattle.atom_identity_rewrite.proofs.Basics.{basics}
+use Rattle.arith.specs.NeedLaws.{basics}
 use Rattle.atom_identity_rewrite.proofs.MatcherLaws.{absorbs}
 use Rattle.atom_identity_rewrite.proofs.matchers.match_xor_and_absorb.Statement.{statement}
 use Rattle.atom_identity_rewrite.proofs.matchers.match_xor_and_absorb.Tie as tie

@@ -1,5 +1,5 @@
 -- `atom_identity_rewrite::matchers::match_xor_via_or_minus_and` meets its contract. Assumes nothing.
-use Rattle.atom_identity_rewrite.proofs.Basics.{basics}
+use Rattle.arith.specs.NeedLaws.{basics}
 use Rattle.atom_identity_rewrite.proofs.MatcherLaws.{sidesOf}
 use Rattle.atom_identity_rewrite.proofs.matchers.match_xor_via_or_minus_and.Statement.{statement}
 use Rattle.atom_identity_rewrite.proofs.matchers.match_xor_via_or_minus_and.Tie as tie

@@ -1,5 +1,5 @@
 -- `atom_identity_rewrite::matchers::match_xor_via_ornot_lax` meets its contract. Assumes nothing.
-use Rattle.atom_identity_rewrite.proofs.Basics.{basics}
+use Rattle.arith.specs.NeedLaws.{basics}
 use Rattle.atom_identity_rewrite.proofs.ReadLaws.{going}
 use Rattle.atom_identity_rewrite.proofs.matchers.match_xor_via_ornot_lax.Statement.{statement}
 use Rattle.atom_identity_rewrite.proofs.matchers.match_xor_via_ornot_lax.Tie as tie

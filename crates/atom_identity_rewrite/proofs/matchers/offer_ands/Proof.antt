@@ -1,5 +1,5 @@
 -- `atom_identity_rewrite::matchers::offer_ands` meets its contract. Assumes nothing.
-use Rattle.atom_identity_rewrite.proofs.Basics.{basics}
+use Rattle.arith.specs.NeedLaws.{basics}
 use Rattle.atom_identity_rewrite.proofs.OfferLaws.{offering}
 use Rattle.atom_identity_rewrite.proofs.matchers.offer_ands.Statement.{statement}
 use Rattle.atom_identity_rewrite.proofs.matchers.offer_ands.Tie as tie

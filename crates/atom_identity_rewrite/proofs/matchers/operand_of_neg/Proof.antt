@@ -1,5 +1,5 @@
 -- `atom_identity_rewrite::matchers::operand_of_neg` meets its contract. Assumes nothing.
-use Rattle.atom_identity_rewrite.proofs.Basics.{basics}
+use Rattle.arith.specs.NeedLaws.{basics}
 use Rattle.atom_identity_rewrite.proofs.MatcherLaws.{addNegs}
 use Rattle.atom_identity_rewrite.proofs.matchers.operand_of_neg.Statement.{statement}
 use Rattle.atom_identity_rewrite.proofs.matchers.operand_of_neg.Tie as tie

@@ -1,5 +1,5 @@
 -- `atom_identity_rewrite::matchers::pick_kind` meets its contract. Assumes nothing.
-use Rattle.atom_identity_rewrite.proofs.Basics.{basics}
+use Rattle.arith.specs.NeedLaws.{basics}
 use Rattle.atom_identity_rewrite.proofs.MatcherLaws.{picksKind}
 use Rattle.atom_identity_rewrite.proofs.matchers.pick_kind.Statement.{statement}
 use Rattle.atom_identity_rewrite.proofs.matchers.pick_kind.Tie as tie

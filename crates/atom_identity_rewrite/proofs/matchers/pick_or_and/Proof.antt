@@ -1,5 +1,5 @@
 -- `atom_identity_rewrite::matchers::pick_or_and` meets its contract. Assumes nothing.
-use Rattle.atom_identity_rewrite.proofs.Basics.{basics}
+use Rattle.arith.specs.NeedLaws.{basics}
 use Rattle.atom_identity_rewrite.proofs.MatcherLaws.{orAnds}
 use Rattle.atom_identity_rewrite.proofs.matchers.pick_or_and.Statement.{statement}
 use Rattle.atom_identity_rewrite.proofs.matchers.pick_or_and.Tie as tie

@@ -1,5 +1,5 @@
 -- `atom_identity_rewrite::matchers::xor_absorb_one` meets its contract. Assumes nothing.
-use Rattle.atom_identity_rewrite.proofs.Basics.{basics}
+use Rattle.arith.specs.NeedLaws.{basics}
 use Rattle.atom_identity_rewrite.proofs.MatcherLaws.{absorbs}
 use Rattle.atom_identity_rewrite.proofs.matchers.xor_absorb_one.Statement.{statement}
 use Rattle.atom_identity_rewrite.proofs.matchers.xor_absorb_one.Tie as tie

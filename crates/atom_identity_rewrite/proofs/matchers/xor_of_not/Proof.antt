@@ -1,5 +1,5 @@
 -- `atom_identity_rewrite::matchers::xor_of_not` meets its contract. Assumes nothing.
-use Rattle.atom_identity_rewrite.proofs.Basics.{basics}
+use Rattle.arith.specs.NeedLaws.{basics}
 use Rattle.atom_identity_rewrite.proofs.MatcherLaws.{notSides}
 use Rattle.atom_identity_rewrite.proofs.matchers.xor_of_not.Statement.{statement}
 use Rattle.atom_identity_rewrite.proofs.matchers.xor_of_not.Tie as tie

@@ -1,5 +1,5 @@
 -- `atom_identity_rewrite::parts::expr_eq` meets its contract. Assumes nothing.
-use Rattle.atom_identity_rewrite.proofs.Basics.{basics}
+use Rattle.arith.specs.NeedLaws.{basics}
 use Rattle.atom_identity_rewrite.proofs.NodeLaws.{nodes}
 use Rattle.atom_identity_rewrite.proofs.parts.expr_eq.Statement.{statement}
 use Rattle.atom_identity_rewrite.proofs.parts.expr_eq.Tie as tie

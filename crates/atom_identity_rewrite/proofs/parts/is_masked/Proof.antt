@@ -1,5 +1,5 @@
 -- `atom_identity_rewrite::parts::is_masked` meets its contract. Assumes nothing.
-use Rattle.atom_identity_rewrite.proofs.Basics.{basics}
+use Rattle.arith.specs.NeedLaws.{basics}
 use Rattle.atom_identity_rewrite.proofs.NodeLaws.{nodes}
 use Rattle.atom_identity_rewrite.proofs.parts.is_masked.Statement.{statement}
 use Rattle.atom_identity_rewrite.proofs.parts.is_masked.Tie as tie

@@ -1,5 +1,5 @@
 -- `atom_identity_rewrite::parts::operands_of` meets its contract. Assumes nothing.
-use Rattle.atom_identity_rewrite.proofs.Basics.{basics}
+use Rattle.arith.specs.NeedLaws.{basics}
 use Rattle.atom_identity_rewrite.proofs.StandLaws.{places}
 use Rattle.atom_identity_rewrite.proofs.parts.operands_of.Statement.{statement}
 use Rattle.atom_identity_rewrite.proofs.parts.operands_of.Tie as tie

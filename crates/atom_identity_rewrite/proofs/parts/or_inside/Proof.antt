@@ -1,5 +1,5 @@
 -- `atom_identity_rewrite::parts::or_inside` meets its contract. Assumes nothing.
-use Rattle.atom_identity_rewrite.proofs.Basics.{basics}
+use Rattle.arith.specs.NeedLaws.{basics}
 use Rattle.atom_identity_rewrite.proofs.OrLaws.{ors}
 use Rattle.atom_identity_rewrite.proofs.parts.or_inside.Statement.{statement}
 use Rattle.atom_identity_rewrite.proofs.parts.or_inside.Tie as tie

@@ -1,5 +1,5 @@
 -- `atom_identity_rewrite::reading::is_unit` meets its contract. Assumes nothing.
-use Rattle.atom_identity_rewrite.proofs.Basics.{basics}
+use Rattle.arith.specs.NeedLaws.{basics}
 use Rattle.atom_identity_rewrite.proofs.SortLaws.{sorting}
 use Rattle.atom_identity_rewrite.proofs.reading.is_unit.Statement.{statement}
 use Rattle.atom_identity_rewrite.proofs.reading.is_unit.Tie as tie

@@ -1,5 +1,5 @@
 -- `atom_identity_rewrite::reading::lax_and` meets its contract. Assumes nothing.
-use Rattle.atom_identity_rewrite.proofs.Basics.{basics}
+use Rattle.arith.specs.NeedLaws.{basics}
 use Rattle.atom_identity_rewrite.proofs.OfferLaws.{offering}
 use Rattle.atom_identity_rewrite.proofs.reading.lax_and.Statement.{statement}
 use Rattle.atom_identity_rewrite.proofs.reading.lax_and.Tie as tie

@@ -1,5 +1,5 @@
 -- `atom_identity_rewrite::reading::sort_by_tag` meets its contract. Assumes nothing.
-use Rattle.atom_identity_rewrite.proofs.Basics.{basics}
+use Rattle.arith.specs.NeedLaws.{basics}
 use Rattle.atom_identity_rewrite.proofs.SortLaws.{sorting}
 use Rattle.atom_identity_rewrite.proofs.reading.sort_by_tag.Statement.{statement}
 use Rattle.atom_identity_rewrite.proofs.reading.sort_by_tag.Tie as tie

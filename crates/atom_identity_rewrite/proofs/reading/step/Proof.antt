@@ -1,5 +1,5 @@
 -- `atom_identity_rewrite::reading::step` meets its contract. Assumes nothing.
-use Rattle.atom_identity_rewrite.proofs.Basics.{basics}
+use Rattle.arith.specs.NeedLaws.{basics}
 use Rattle.atom_identity_rewrite.proofs.ReadLaws.{going}
 use Rattle.atom_identity_rewrite.proofs.reading.step.Statement.{statement}
 use Rattle.atom_identity_rewrite.proofs.reading.step.Tie as tie

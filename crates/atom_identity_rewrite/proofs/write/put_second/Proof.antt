@@ -1,5 +1,5 @@
 -- `atom_identity_rewrite::write::put_second` meets its contract. Assumes nothing.
-use Rattle.atom_identity_rewrite.proofs.Basics.{basics}
+use Rattle.arith.specs.NeedLaws.{basics}
 use Rattle.atom_identity_rewrite.proofs.WriteLaws.{laying}
 use Rattle.atom_identity_rewrite.proofs.write.put_second.Statement.{statement}
 use Rattle.atom_identity_rewrite.proofs.write.put_second.Tie as tie

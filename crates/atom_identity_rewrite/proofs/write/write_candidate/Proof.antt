@@ -1,5 +1,5 @@
 -- `atom_identity_rewrite::write::write_candidate` meets its contract. Assumes nothing.
-use Rattle.atom_identity_rewrite.proofs.Basics.{basics}
+use Rattle.arith.specs.NeedLaws.{basics}
 use Rattle.atom_identity_rewrite.proofs.WriteLaws.{writing}
 use Rattle.atom_identity_rewrite.proofs.write.write_candidate.Statement.{statement}
 use Rattle.atom_identity_rewrite.proofs.write.write_candidate.Tie as tie

@@ -1,7 +1,7 @@
 -- `build`, `build_one`, `build_right`, `build_two` meet their contracts. Assumes nothing.
 use Prim.Native.Nat.{ℕ, _+_, _*_, _<_}
 use lib.ListN.{length}
-use Rattle.atom_simplifier.proofs.Basics.{basics}
+use Rattle.arith.specs.NeedLaws.{basics}
 use borrow.Fn.Kinds.{In}
 use borrow.Fn.PlainCycle.{Measures, is, falls, and}
 use Rattle.atom_simplifier.proofs.chain.build.Reads as tree

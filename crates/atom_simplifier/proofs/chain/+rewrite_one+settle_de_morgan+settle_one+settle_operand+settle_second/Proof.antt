@@ -1,6 +1,6 @@
 -- `rewrite_one`, `settle_de_morgan`, `settle_one`, `settle_operand`, `settle_second` meet their contracts. Assumes nothing.
 use Prim.Native.Nat.{ℕ, _+_, _*_, _-_, _<_}
-use Rattle.atom_simplifier.proofs.Basics.{basics}
+use Rattle.arith.specs.NeedLaws.{basics}
 use borrow.Fn.Kinds.{In}
 use borrow.Fn.PlainCycle.{Measures, is, falls, and}
 use Rattle.atom_simplifier.proofs.chain.rewrite_one.Reads as rewrite

@@ -1,5 +1,5 @@
 -- `atom_simplifier::chain::binary_pairs` meets its contract. Assumes nothing.
-use Rattle.atom_simplifier.proofs.Basics.{basics}
+use Rattle.arith.specs.NeedLaws.{basics}
 use Rattle.atom_simplifier.proofs.PairsLaws.{and-or-adds, low-adds, high-adds}
 use Rattle.atom_simplifier.proofs.chain.binary_pairs.Statement.{statement}
 use Rattle.atom_simplifier.proofs.chain.binary_pairs.Tie as tie

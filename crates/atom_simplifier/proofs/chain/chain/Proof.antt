@@ -1,5 +1,5 @@
 -- `atom_simplifier::chain::chain` meets its contract. Assumes nothing.
-use Rattle.atom_simplifier.proofs.Basics.{basics}
+use Rattle.arith.specs.NeedLaws.{basics}
 use Rattle.atom_simplifier.proofs.ChainedLaws.{chaining}
 use Rattle.atom_simplifier.proofs.chain.chain.Statement.{statement}
 use Rattle.atom_simplifier.proofs.chain.chain.Tie as tie

@@ -1,7 +1,7 @@
 -- `atom_simplifier::chain::clear` meets its contract. The measure is the words that are left. Assumes nothing.
 use Prim.Native.Nat.{_-_}
 use lib.ListN.{length, replicate}
-use Rattle.atom_simplifier.proofs.Basics.{basics}
+use Rattle.arith.specs.NeedLaws.{basics}
 use Rattle.atom_simplifier.proofs.InPlaceLaws.{clearing}
 use Rattle.atom_simplifier.proofs.WriteLaws.{Copied, copied-long}
 use Rattle.atom_simplifier.proofs.chain.clear.Statement.{statement}

@@ -1,5 +1,5 @@
 -- `atom_simplifier::chain::load` meets its contract. Assumes nothing.
-use Rattle.atom_simplifier.proofs.Basics.{basics}
+use Rattle.arith.specs.NeedLaws.{basics}
 use Rattle.atom_simplifier.proofs.BuildLaws.{node-loaded}
 use Rattle.atom_simplifier.proofs.chain.load.Statement.{statement}
 use Rattle.atom_simplifier.proofs.chain.load.Tie as tie

@@ -1,5 +1,5 @@
 -- `atom_simplifier::chain::settle_two` meets its contract. Assumes nothing.
-use Rattle.atom_simplifier.proofs.Basics.{basics}
+use Rattle.arith.specs.NeedLaws.{basics}
 use Rattle.atom_simplifier.proofs.SettleLaws.{settlingTwo}
 use Rattle.atom_simplifier.proofs.chain.settle_two.Statement.{statement}
 use Rattle.atom_simplifier.proofs.chain.settle_two.Tie as tie

@@ -1,5 +1,5 @@
 -- `atom_simplifier::chain::turn_kind` meets its contract. Assumes nothing.
-use Rattle.atom_simplifier.proofs.Basics.{basics}
+use Rattle.arith.specs.NeedLaws.{basics}
 use Rattle.atom_simplifier.proofs.TurnLaws.{kind-turned}
 use Rattle.atom_simplifier.proofs.chain.turn_kind.Statement.{statement}
 use Rattle.atom_simplifier.proofs.chain.turn_kind.Tie as tie

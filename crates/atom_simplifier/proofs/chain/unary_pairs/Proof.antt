@@ -1,5 +1,5 @@
 -- `atom_simplifier::chain::unary_pairs` meets its contract. Assumes nothing.
-use Rattle.atom_simplifier.proofs.Basics.{basics}
+use Rattle.arith.specs.NeedLaws.{basics}
 use Rattle.atom_simplifier.proofs.PairsLaws.{unary-stays, unary-adds}
 use Rattle.atom_simplifier.proofs.chain.unary_pairs.Statement.{statement}
 use Rattle.atom_simplifier.proofs.chain.unary_pairs.Tie as tie

@@ -1,5 +1,5 @@
 -- `atom_simplifier::fold::are_complements` meets its contract. Assumes nothing.
-use Rattle.atom_simplifier.proofs.Basics.{basics}
+use Rattle.arith.specs.NeedLaws.{basics}
 use Rattle.atom_simplifier.proofs.OperandLaws.{operand}
 use Rattle.atom_simplifier.proofs.fold.are_complements.Statement.{statement}
 use Rattle.atom_simplifier.proofs.fold.are_complements.Tie as tie

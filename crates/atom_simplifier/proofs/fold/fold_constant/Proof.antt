@@ -1,5 +1,5 @@
 -- `atom_simplifier::fold::fold_constant` meets its contract. Assumes nothing.
-use Rattle.atom_simplifier.proofs.Basics.{basics}
+use Rattle.arith.specs.NeedLaws.{basics}
 use Rattle.atom_simplifier.proofs.ReassociateLaws.{folded}
 use Rattle.atom_simplifier.proofs.fold.fold_constant.Statement.{statement}
 use Rattle.atom_simplifier.proofs.fold.fold_constant.Tie as tie

@@ -1,5 +1,5 @@
 -- `atom_simplifier::fold::fold_node_arms` meets its contract. Assumes nothing.
-use Rattle.atom_simplifier.proofs.Basics.{basics}
+use Rattle.arith.specs.NeedLaws.{basics}
 use Rattle.atom_simplifier.proofs.NodeFoldLaws.{nodeFold}
 use Rattle.atom_simplifier.proofs.fold.fold_node_arms.Statement.{statement}
 use Rattle.atom_simplifier.proofs.fold.fold_node_arms.Tie as tie

@@ -1,5 +1,5 @@
 -- `atom_simplifier::fold::is_not_of` meets its contract. Assumes nothing.
-use Rattle.atom_simplifier.proofs.Basics.{basics}
+use Rattle.arith.specs.NeedLaws.{basics}
 use Rattle.atom_simplifier.proofs.OperandLaws.{operand}
 use Rattle.atom_simplifier.proofs.fold.is_not_of.Statement.{statement}
 use Rattle.atom_simplifier.proofs.fold.is_not_of.Tie as tie

@@ -1,5 +1,5 @@
 -- `atom_simplifier::fold::or_constants` meets its contract. Assumes nothing.
-use Rattle.atom_simplifier.proofs.Basics.{basics}
+use Rattle.arith.specs.NeedLaws.{basics}
 use Rattle.atom_simplifier.proofs.ArmLaws.{arm}
 use Rattle.atom_simplifier.proofs.fold.or_constants.Statement.{statement}
 use Rattle.atom_simplifier.proofs.fold.or_constants.Tie as tie

@@ -1,5 +1,5 @@
 -- `atom_simplifier::fold::right_at` meets its contract. Assumes nothing.
-use Rattle.atom_simplifier.proofs.Basics.{basics}
+use Rattle.arith.specs.NeedLaws.{basics}
 use Rattle.atom_simplifier.proofs.OperandLaws.{operand}
 use Rattle.atom_simplifier.proofs.fold.right_at.Statement.{statement}
 use Rattle.atom_simplifier.proofs.fold.right_at.Tie as tie

@@ -1,5 +1,5 @@
 -- `atom_simplifier::fold::same_part` meets its contract. Assumes nothing.
-use Rattle.atom_simplifier.proofs.Basics.{basics}
+use Rattle.arith.specs.NeedLaws.{basics}
 use Rattle.atom_simplifier.proofs.OperandLaws.{operand}
 use Rattle.atom_simplifier.proofs.fold.same_part.Statement.{statement}
 use Rattle.atom_simplifier.proofs.fold.same_part.Tie as tie

@@ -1,5 +1,5 @@
 -- `atom_simplifier::fold::try_fold_binary` meets its contract. Assumes nothing.
-use Rattle.atom_simplifier.proofs.Basics.{basics}
+use Rattle.arith.specs.NeedLaws.{basics}
 use Rattle.atom_simplifier.proofs.NodeFoldLaws.{nodeFold}
 use Rattle.atom_simplifier.proofs.fold.try_fold_binary.Statement.{statement}
 use Rattle.atom_simplifier.proofs.fold.try_fold_binary.Tie as tie

@@ -1,5 +1,5 @@
 -- `atom_simplifier::local::de_morgan` meets its contract. Assumes nothing.
-use Rattle.atom_simplifier.proofs.Basics.{basics}
+use Rattle.arith.specs.NeedLaws.{basics}
 use Rattle.atom_simplifier.proofs.LocalLaws.{notRule}
 use Rattle.atom_simplifier.proofs.local.de_morgan.Statement.{statement}
 use Rattle.atom_simplifier.proofs.local.de_morgan.Tie as tie

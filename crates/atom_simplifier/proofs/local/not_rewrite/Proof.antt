@@ -1,5 +1,5 @@
 -- `atom_simplifier::local::not_rewrite` meets its contract. Assumes nothing.
-use Rattle.atom_simplifier.proofs.Basics.{basics}
+use Rattle.arith.specs.NeedLaws.{basics}
 use Rattle.atom_simplifier.proofs.LocalLaws.{notRule}
 use Rattle.atom_simplifier.proofs.local.not_rewrite.Statement.{statement}
 use Rattle.atom_simplifier.proofs.local.not_rewrite.Tie as tie

@@ -1,5 +1,5 @@
 -- `atom_simplifier::local::root_rewrite` meets its contract. Assumes nothing.
-use Rattle.atom_simplifier.proofs.Basics.{basics}
+use Rattle.arith.specs.NeedLaws.{basics}
 use Rattle.atom_simplifier.proofs.LocalLaws.{rootRule}
 use Rattle.atom_simplifier.proofs.local.root_rewrite.Statement.{statement}
 use Rattle.atom_simplifier.proofs.local.root_rewrite.Tie as tie

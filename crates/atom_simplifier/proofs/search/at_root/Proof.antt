@@ -1,5 +1,5 @@
 -- `atom_simplifier::search::at_root` meets its contract. Assumes nothing.
-use Rattle.atom_simplifier.proofs.Basics.{basics}
+use Rattle.arith.specs.NeedLaws.{basics}
 use Rattle.atom_simplifier.proofs.SearchLaws.{rooting}
 use Rattle.atom_simplifier.proofs.search.at_root.Statement.{statement}
 use Rattle.atom_simplifier.proofs.search.at_root.Tie as tie

@@ -1,7 +1,7 @@
 -- `atom_simplifier::write::copy` meets its contract. The measure is what is left of the part. Assumes nothing.
 use Prim.Native.Nat.{_-_}
 use lib.ListN.{length}
-use Rattle.atom_simplifier.proofs.Basics.{basics}
+use Rattle.arith.specs.NeedLaws.{basics}
 use Rattle.atom_simplifier.proofs.WriteLaws.{Copied, copying}
 use Rattle.atom_simplifier.proofs.write.copy.Statement.{statement}
 use Rattle.atom_simplifier.proofs.write.copy.Tie as tie

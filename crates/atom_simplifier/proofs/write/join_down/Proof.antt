@@ -1,5 +1,5 @@
 -- `atom_simplifier::write::join_down` meets its contract. Assumes nothing.
-use Rattle.atom_simplifier.proofs.Basics.{basics}
+use Rattle.arith.specs.NeedLaws.{basics}
 use Rattle.expr.specs.LentLaws.{laid-length}
 use Rattle.atom_simplifier.proofs.InPlaceLaws.{joining}
 use Rattle.atom_simplifier.proofs.write.join_down.Statement.{statement}

@@ -1,6 +1,6 @@
 -- `atom_simplifier::write::move_down` meets its contract. The measure is the words that are left. Assumes nothing.
 use Prim.Native.Nat.{_+_, _-_}
-use Rattle.atom_simplifier.proofs.Basics.{basics}
+use Rattle.arith.specs.NeedLaws.{basics}
 use Rattle.expr.specs.Parts.{part}
 use Rattle.atom_simplifier.proofs.InPlaceLaws.{moving}
 use Rattle.atom_simplifier.proofs.WriteLaws.{Copied, copied-long}

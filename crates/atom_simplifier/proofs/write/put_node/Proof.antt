@@ -1,5 +1,5 @@
 -- `atom_simplifier::write::put_node` meets its contract. Assumes nothing.
-use Rattle.atom_simplifier.proofs.Basics.{basics}
+use Rattle.arith.specs.NeedLaws.{basics}
 use Rattle.atom_simplifier.proofs.WriteLaws.{writing}
 use Rattle.atom_simplifier.proofs.write.put_node.Statement.{statement}
 use Rattle.atom_simplifier.proofs.write.put_node.Tie as tie

@@ -1,5 +1,5 @@
 -- `atom_simplifier::write::replace` meets its contract. Assumes nothing.
-use Rattle.atom_simplifier.proofs.Basics.{basics}
+use Rattle.arith.specs.NeedLaws.{basics}
 use Rattle.expr.specs.LentLaws.{laid-length}
 use Rattle.atom_simplifier.proofs.ReplaceLaws.{inPlace}
 use Rattle.atom_simplifier.proofs.write.replace.Statement.{statement}

@@ -1,5 +1,5 @@
 -- `atom_simplifier::write::write_de_morgan` meets its contract. Assumes nothing.
-use Rattle.atom_simplifier.proofs.Basics.{basics}
+use Rattle.arith.specs.NeedLaws.{basics}
 use Rattle.atom_simplifier.proofs.WriteLaws.{writing}
 use Rattle.atom_simplifier.proofs.write.write_de_morgan.Statement.{statement}
 use Rattle.atom_simplifier.proofs.write.write_de_morgan.Tie as tie

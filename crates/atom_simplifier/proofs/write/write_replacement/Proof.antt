@@ -1,5 +1,5 @@
 -- `atom_simplifier::write::write_replacement` meets its contract. Assumes nothing.
-use Rattle.atom_simplifier.proofs.Basics.{basics}
+use Rattle.arith.specs.NeedLaws.{basics}
 use Rattle.atom_simplifier.proofs.ReplacementLaws.{replacing}
 use Rattle.atom_simplifier.proofs.write.write_replacement.Statement.{statement}
 use Rattle.atom_simplifier.proofs.write.write_replacement.Tie as tie

@@ -1,6 +1,6 @@
 -- `report_lines::line::put_frame` meets its contract. Assumes nothing.
 use Rattle.report_lines.proofs.PrintedLaws.{framing}
-use Rattle.atom_simplifier.proofs.Basics.{basics}
+use Rattle.arith.specs.NeedLaws.{basics}
 use Rattle.report_lines.proofs.line.put_frame.Statement.{statement}
 use Rattle.report_lines.proofs.line.put_frame.Tie as tie
 

@@ -1,6 +1,6 @@
 -- `report_lines::line::put_line` meets its contract. Assumes nothing.
 use Rattle.report_lines.proofs.PrintedLaws.{reading}
-use Rattle.atom_simplifier.proofs.Basics.{basics}
+use Rattle.arith.specs.NeedLaws.{basics}
 use Rattle.report_lines.proofs.line.put_line.Statement.{statement}
 use Rattle.report_lines.proofs.line.put_line.Tie as tie
 

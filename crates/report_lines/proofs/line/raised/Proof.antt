@@ -1,6 +1,6 @@
 -- `report_lines::line::raised` meets its contract. Assumes nothing.
 use Rattle.report_lines.proofs.ConditionsLaws.{one-node}
-use Rattle.atom_simplifier.proofs.Basics.{basics}
+use Rattle.arith.specs.NeedLaws.{basics}
 use Rattle.report_lines.proofs.line.raised.Statement.{statement}
 use Rattle.report_lines.proofs.line.raised.Tie as tie
 

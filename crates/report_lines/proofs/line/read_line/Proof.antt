@@ -1,6 +1,6 @@
 -- `report_lines::line::read_line` meets its contract. Assumes nothing.
 use Rattle.report_lines.proofs.PrintedLaws.{decoding}
-use Rattle.atom_simplifier.proofs.Basics.{basics}
+use Rattle.arith.specs.NeedLaws.{basics}
 use Rattle.report_lines.proofs.line.read_line.Statement.{statement}
 use Rattle.report_lines.proofs.line.read_line.Tie as tie
 

@@ -1,6 +1,6 @@
 -- `report_lines::line::run_chain` meets its contract. Assumes nothing.
 use Rattle.report_lines.proofs.RanLaws.{running}
-use Rattle.atom_simplifier.proofs.Basics.{basics}
+use Rattle.arith.specs.NeedLaws.{basics}
 use Rattle.report_lines.proofs.line.run_chain.Statement.{statement}
 use Rattle.report_lines.proofs.line.run_chain.Tie as tie
 

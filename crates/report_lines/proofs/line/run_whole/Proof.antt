@@ -1,6 +1,6 @@
 -- `report_lines::line::run_whole` meets its contract. Assumes nothing.
 use Rattle.report_lines.proofs.RanLaws.{running}
-use Rattle.atom_simplifier.proofs.Basics.{basics}
+use Rattle.arith.specs.NeedLaws.{basics}
 use Rattle.report_lines.proofs.line.run_whole.Statement.{statement}
 use Rattle.report_lines.proofs.line.run_whole.Tie as tie
 

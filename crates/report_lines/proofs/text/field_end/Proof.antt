@@ -1,6 +1,6 @@
 -- `report_lines::text::field_end` meets its contract. Assumes nothing.
 use Rattle.report_lines.proofs.TextLaws.{small}
-use Rattle.atom_simplifier.proofs.Basics.{basics}
+use Rattle.arith.specs.NeedLaws.{basics}
 use Rattle.report_lines.proofs.text.field_end.Statement.{statement}
 use Rattle.report_lines.proofs.text.field_end.Tie as tie
 

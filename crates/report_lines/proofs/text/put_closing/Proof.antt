@@ -1,6 +1,6 @@
 -- `report_lines::text::put_closing` meets its contract. Assumes nothing.
 use Rattle.report_lines.proofs.TextLaws.{close-line}
-use Rattle.atom_simplifier.proofs.Basics.{basics}
+use Rattle.arith.specs.NeedLaws.{basics}
 use Rattle.report_lines.proofs.text.put_closing.Statement.{statement}
 use Rattle.report_lines.proofs.text.put_closing.Tie as tie
 

@@ -1,6 +1,6 @@
 -- `report_lines::text::put_field` meets its contract. Assumes nothing.
 use Rattle.report_lines.proofs.TextLaws.{one-field}
-use Rattle.atom_simplifier.proofs.Basics.{basics}
+use Rattle.arith.specs.NeedLaws.{basics}
 use Rattle.report_lines.proofs.text.put_field.Statement.{statement}
 use Rattle.report_lines.proofs.text.put_field.Tie as tie
 

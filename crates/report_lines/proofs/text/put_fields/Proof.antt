@@ -2,7 +2,7 @@
 use Prim.Native.Nat.{_-_}
 use lib.ListN.{length}
 use Rattle.report_lines.proofs.TextLaws.{Fielding, all-fields}
-use Rattle.atom_simplifier.proofs.Basics.{basics}
+use Rattle.arith.specs.NeedLaws.{basics}
 use Rattle.report_lines.proofs.text.put_fields.Statement.{statement}
 use Rattle.report_lines.proofs.text.put_fields.Tie as tie
 

@@ -1,4 +1,4 @@
--- What the proof of each function hands to `search` beside its own laws: of the logic's `needs` only what is used here, so without its lemmas on
+-- What the proofs of functions in the larger crates hand to `search` beside their own laws: of the logic's `needs` only what is used here, so without its lemmas on
 -- arrays, signed numbers and floats. Assumes nothing.
 use native.Mathlib.Nat.{le-refl}
 use native.Mathlib.Omega.{arith}
