@@ -196,10 +196,10 @@ pub fn copy_words(words: &[u64], out: &mut [u64])
     ensures { λ r. ⌜ now (out .exit) ≡ over (take (length (now (out .entry))) (now (words .entry))) (now (out .entry)) ⌝ }
 {
     let n = shorter(words.len(), out.len());
-    let mut i = 0;
-    while i < n {
-        out[i] = words[i];
-        i += 1;
+    let mut at = 0;
+    while at < n {
+        out[at] = words[at];
+        at += 1;
     }
 }
 
