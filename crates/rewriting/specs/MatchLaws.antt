@@ -7,17 +7,20 @@ use mathlib.Core.Bool as bool
 use mathlib.Core.List.{List, [], _∷_}
 use mathlib.Core.Option.{Option, none, some}
 use Prim.Native.Nat.{ℕ, _%_, _^_}
-use native.Mathlib.Nat.{add-comm, mul-comm}
+use native.Mathlib.Nat.{add-comm, mul-comm, mod-lt}
+use native.Mathlib.Omega.{arith}
 use lib.Bits.{and-comm, or-comm, xor-comm}
 use lib.Dec.{T, eqb}
 use lib.ListN.{length}
+use lib.Pow.{pow-pos}
 use mir.Facts.{and-yes, or-yes, or-no}
+use borrow.Author.Tests.{ne-eqb}
 use Rattle.arith.specs.Choice.{if_then_else_}
-use Rattle.expr.specs.Expr.{Unary, Not, Neg, Shr, ZExt, SExt, Trunc, Binary, Add, Mul, And, Or, Xor, Concat, Expr, leaf, unary, binary, unaryNumber}
+use Rattle.expr.specs.Expr.{Constant, Variable, Unary, Not, Neg, Shr, ZExt, SExt, Trunc, Binary, Add, Mul, And, Or, Xor, Concat, Expr, leaf, unary, binary, unaryNumber}
 use Rattle.expr.specs.SameWordsLaws.{same→tree}
 use Rattle.value.specs.Value.{binaryValue, value}
 use Rattle.rewriting.specs.Optional.{onlyIf, map, _andThen_, _orElse_}
-use Rattle.rewriting.specs.OptionalLaws.{Every, if-case, every-onlyIf, every-unless, every-orElse, every-at, every-on, every-andThen, every-map-on, every-andThen-on}
+use Rattle.rewriting.specs.OptionalLaws.{then-none, Every, if-case, every-onlyIf, every-unless, every-orElse, every-at, every-on, every-andThen, every-map-on, every-andThen-on}
 use Rattle.rewriting.specs.AtomSimplifier.{not, isNotKind, sameKind}
 use Rattle.rewriting.specs.AtomIdentityRewrite.{exprEq, operandsOf, operandOfNot, isNegKind, operandOfNeg, isNotOf, besideNotOf, matchBinaryAddWithNeg, xorAbsorbOne, matchXorAndAbsorb, sameUnorderedPair, xorOfOrAnd, matchXorViaOrMinusAnd, andOfOrNot, matchAndViaNotOrMinusNot, Addend, anyNegated, extract, only, plusAndMinus, isOr, orInProduct, isMasked, isOne, matchAndViaNotOrPlusAPlusOne, isMinusTwo, isMinusTwiceOr, matchXorViaOrnotFlat, isThere, orNotUnderNeg}
 use Rattle.rewriting.specs.TestLaws.{not-kind→eq, same-kind→eq}
@@ -306,3 +309,31 @@ module _ (w : ℕ) where
         every-andThen OrNotFlat (plusAndMinus zs) _ (λ (a, b) e.
         every-onlyIf OrNotFlat ((exprEq l a && isNotOf r b) || (exprEq r a && isNotOf l b)) (λ h.
         or-not-flat (p .has) (p .put) (q .has .0, product-on (q .has .1) (with-not l r a b h)) (q .put) e)))))
+
+-- ---- tag 5 at width 1
+
+no-two : (t : Expr) → isMasked 1 2 t ≡ false
+unfolding isMasked
+no-two (leaf (Constant c)) = ne-eqb (c % 2 ^ 1) 2 (λ e. omega (arith, mod-lt c (pow-pos 1), e))
+no-two (leaf (Variable i)) = refl
+no-two (unary k t) = refl
+no-two (binary k l r) = refl
+
+-- no constant is 2 under the mask of one bit
+no-minus-two : (xs : List Addend) → extract (isMinusTwo 1) xs ≡ none
+unfolding extract
+no-minus-two [] = refl
+no-minus-two (a ∷ xs) =
+    ap₂ (λ (o : Option Expr) (p : Option (Expr × List Addend)). map (λ b. (b, xs)) o orElse map (λ q. (q .0, a ∷ q .1)) p) (never (a .negated) (no-two (a .expr))) (no-minus-two xs)
+  where
+    never : (n : Bool) {m : Bool} → m ≡ false → onlyIf (n && m) (a .expr) ≡ none
+    never true e = ap (λ (b : Bool). onlyIf b (a .expr)) e
+    never false e = refl
+
+pub no-tag-5-at-1 : (xs : List Addend) → matchXorViaOrnotFlat 1 xs ≡ none
+unfolding matchXorViaOrnotFlat
+no-tag-5-at-1 xs = either (eqb (length xs) 4) (then-none (extract (isMinusTwo 1) xs) _ (no-minus-two xs))
+  where
+    either : (b : Bool) {o : Option Expr} → o ≡ none → (if bool.not b then none else o) ≡ none
+    either true e = e
+    either false e = refl
