@@ -95,9 +95,6 @@ lshr-is w k {x} hx = go (decLe w k)
 pub lshr-none : (w : ℕ) {x : ℕ} → x < 2 ^ w → bvlshr w x 0 ≡ x
 lshr-none w {x} hx = lshr-is w 0 hx ∙ div-one x
 
-pub lshr-past : (w k x : ℕ) → w ≤ k → bvlshr w x k ≡ 0
-lshr-past w k x h = simp (le-ltb k w h)
-
 -- ---- SMT-LIB's own wording: bit i of the answer from bit i of the operands
 
 -- the last digit of a number that is made of its other digits and one digit

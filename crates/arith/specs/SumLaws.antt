@@ -2,7 +2,7 @@
 -- are in Hacker's Delight). Assumes nothing.
 use mathlib.Core.Path.{_≡_, sym, ap, ap₂, _∙_}
 use Prim.Native.Nat.{ℕ, _+_, _-_, _*_, _%_, _^_, _≤_, _<_}
-use native.Mathlib.Nat.{mod-lt, mod-eq-of-lt, mod-mod, add-mod, add-mod-mod, mod-add-mod, add-mod-right, add-mul-mod-self-right, add-comm, add-zero, le-mul-of-pos-right}
+use native.Mathlib.Nat.{mod-lt, mod-eq-of-lt, add-mod, add-mod-mod, mod-add-mod, add-mod-right, add-mul-mod-self-right, add-comm, add-zero, le-mul-of-pos-right}
 use native.Mathlib.Omega.{arith}
 use lib.Pow.{pow-pos, ones-sub-lt}
 use lib.Bits.{and-lt, or-lt, xor-lt}
@@ -29,9 +29,6 @@ module _ (w : ℕ) where
   -- a number is itself less nothing
   pub diff-plain : {v : ℕ} → v < 2 ^ w → Diff w v v 0
   diff-plain {v} h = record { below = h; diff = ap (λ (k : ℕ). k % 2 ^ w) (add-zero v) }
-
-  pub diff-mod : (v : ℕ) → Diff w (v % 2 ^ w) v 0
-  diff-mod v = record { below = mod-lt v (pow-pos w); diff = ap (λ (k : ℕ). k % 2 ^ w) (add-zero (v % 2 ^ w)) ∙ mod-mod v (2 ^ w) }
 
   pub diff-add : {a b p q n k : ℕ} → Diff w a p n → Diff w b q k → Diff w (bvadd w a b) (p + q) (n + k)
   diff-add {a} {b} {p} {q} {n} {k} d e = record {

@@ -36,7 +36,15 @@ use Rattle.rewriting.specs.MatchLaws.{neg-number}
 use Rattle.rewriting.specs.AtomIdentityRewrite as def
 use Rattle.rewriting.specs.AtomIdentityRewrite.{isNegKind, pushAddend, flattenAddends}
 use Rattle.atom_identity_rewrite.specs.declared.addends.Addend.{Addend}
-use Rattle.atom_identity_rewrite.specs.Contracts.{Stands, placed, AddendsAre, IsFlat}
+use Rattle.atom_identity_rewrite.specs.Contracts.{Stands, AddendsAre, IsFlat}
+
+-- the addends of a tree whose words start at `at`, each by its place
+unfoldable pub placed : Expr → ℕ → Bool → List Addend
+placed (leaf k) at s = record { start = at; len = 2; negated = s } ∷ []
+placed (unary k t) at s = if isNegKind k then placed t (at + 2) (not s) else record { start = at; len = length (encode (unary k t)); negated = s } ∷ []
+placed (binary k l r) at s =
+    if sameKind k Add then placed l (at + 2) s ++ placed r (at + 2 + length (encode l)) s
+    else record { start = at; len = length (encode (binary k l r)); negated = s } ∷ []
 
 -- ---- `length_of`
 

@@ -25,10 +25,11 @@ use Rattle.expr.specs.ExprLaws.{length-encode}
 use Rattle.expr.specs.ParseLaws.{parse-sound}
 use Rattle.expr.specs.Answers.{countedOutcome}
 use Rattle.expr.specs.Parts.{part}
+use Rattle.expr.specs.Lent.{lentAfter}
 use Rattle.expr.specs.Front.{Exactly, Whole, treeAt}
 use Rattle.expr.specs.PartLaws.{parts, exact-tree, exact-whole, exact-length}
 use Rattle.width.specs.Checked.{checked, withWords}
-use Rattle.width.specs.CheckedLaws.{checked-parse, Tree, checked-tree}
+use Rattle.width.specs.CheckedLaws.{checked-is, Tree, checked-tree}
 use Rattle.rewriting.specs.MatchLaws.{neg-number}
 use Rattle.rewriting.specs.AtomIdentityRewrite as def
 use Rattle.rewriting.specs.AtomIdentityRewrite.{toList, matchXorAndAbsorb, matchXorViaOrMinusAnd, matchAndViaNotOrMinusNot, flattenAddends, laxAnd, laxXor, each, isAdd, tagged, laxCandidates, candidates}
@@ -39,7 +40,7 @@ use Rattle.atom_identity_rewrite.specs.declared.CandidateAnswer.the-vari
 use Rattle.atom_identity_rewrite.specs.declared.candidate.Match.{Match}
 use Rattle.atom_identity_rewrite.specs.declared.candidate.Offer.{Offer}
 use Rattle.atom_identity_rewrite.specs.declared.parts.Part.{Part}
-use Rattle.atom_identity_rewrite.specs.Calls.{Asked, candidate, noMore, orCount, askedFor, candidateAt, told, candidateWritten}
+use Rattle.atom_identity_rewrite.specs.Calls.{Asked, candidate, noMore, orCount, askedFor, candidateAt, told, candidateWords}
 use Rattle.atom_identity_rewrite.specs.Answers.{candidateOutcome}
 use Rattle.atom_identity_rewrite.specs.Contracts.{Standing, partTree, Makes, Matched, OfferIs, Offered, Offers, asked, OffersAll, OffersList, sumCandidates, Writable, Writes, Answers}
 use Rattle.atom_identity_rewrite.proofs.HeldLaws.{not-so, is-so}
@@ -232,7 +233,7 @@ module _ (ws : List ℕ) (w number : ℕ) (a : Offer) (h : Offered ws number (ca
     pub no-more : (out : List ℕ) → Answers ws w number (answer.NoMore (number - a .left)) out out
     no-more out = record {
       answer = sym (ap (λ (q : Asked def.Candidate). accepted (told q)) none-asked);
-      memory = sym (ap (λ (q : Asked def.Candidate). candidateWritten (accepted q) out) none-asked);
+      memory = sym (ap (λ (q : Asked def.Candidate). lentAfter candidateWords (accepted q) out) none-asked);
     }
 
   module _ (f : a .found ≡ true) where
@@ -265,7 +266,7 @@ module _ (ws : List ℕ) (w number : ℕ) (a : Offer) (h : Offered ws number (ca
         answer =
             ap₂ (λ (i j : ℕ). accepted (candidate (i, j))) (was-found .2) (let e : n / 2 ≡ nodes (c .tree) = omega (arith, g .count (c .tree) makes, length-encode (c .tree)) in e)
             ∙ sym (ap (λ (q : Asked def.Candidate). accepted (told q)) asked-is);
-        memory = g .laid (c .tree) makes .is ∙ sym (ap (λ (q : Asked def.Candidate). candidateWritten (accepted q) before) asked-is);
+        memory = g .laid (c .tree) makes .is ∙ sym (ap (λ (q : Asked def.Candidate). lentAfter candidateWords (accepted q) before) asked-is);
       }
 
 pub ruleset handing = (not-so, is-so, left-less, no-more, found-writable, found-answers)
@@ -289,7 +290,7 @@ admitted-sound ws w room t e = parsed (checked w ws) refl e
     roomy u p true q f = no f
     roomy u p false q f =
         let i : u ≡ t = cc in
-        let v = parse-sound ws u (checked-parse w ws u p) in
+        let v = parse-sound ws u (checked-is w ws u p .1) in
         subst (Admitted ws room) i (record { exact = record { words = v .words; operands = v .valid .operands }; few = v .valid .count; holds = ltb-false room (2 * nodes u) q })
 
     parsed : (o : Outcome Expr) → checked w ws ≡ o → (o andThen withWords room) ≡ accepted t → Admitted ws room t
@@ -305,8 +306,8 @@ module _ (ws : List ℕ) (w number room : ℕ) (x : Counted) (h : countedOutcome
     pub call-refused : refused (reasonOf r) ≡ mapped told (candidateAt ws w number room)
     call-refused = sym (ap (mapped told) turned)
 
-    pub refused-unwritten : (out : List ℕ) → out ≡ candidateWritten (candidateAt ws w number room) out
-    refused-unwritten out = sym (ap (λ (o : Outcome (Asked def.Candidate)). candidateWritten o out) turned)
+    pub refused-unwritten : (out : List ℕ) → out ≡ lentAfter candidateWords (candidateAt ws w number room) out
+    refused-unwritten out = sym (ap (λ (o : Outcome (Asked def.Candidate)). lentAfter candidateWords o out) turned)
 
   module _ (n : ℕ) (e : x ≡ counted.Count n) where
     t : Expr
@@ -336,7 +337,7 @@ module _ (ws : List ℕ) (w number room : ℕ) (x : Counted) (h : countedOutcome
       pub call-answered : candidateOutcome r ≡ mapped told (candidateAt ws w number room)
       call-answered = g .answer ∙ sym (ap (mapped told) call-is)
 
-      pub call-written : after ≡ candidateWritten (candidateAt ws w number room) before
-      call-written = g .memory ∙ sym (ap (λ (o : Outcome (Asked def.Candidate)). candidateWritten o before) call-is)
+      pub call-written : after ≡ lentAfter candidateWords (candidateAt ws w number room) before
+      call-written = g .memory ∙ sym (ap (λ (o : Outcome (Asked def.Candidate)). lentAfter candidateWords o before) call-is)
 
 pub ruleset calls = (call-refused, refused-unwritten, call-whole, call-short, call-room, call-answered, call-written)

@@ -15,7 +15,7 @@ use Rattle.atom_identity_rewrite.specs.declared.candidate.Match.the-vari
 use Rattle.atom_identity_rewrite.specs.declared.candidate.Offer.{Offer}
 use Rattle.atom_identity_rewrite.specs.declared.reading.Roles.{Roles}
 use Rattle.atom_identity_rewrite.specs.declared.reading.Reading.{Reading}
-use Rattle.atom_identity_rewrite.specs.Contracts.{Matched, addendOf, inUse, IsFlat, OrHeldIs, HeldIs, lastOf, unitBy, orBy, Sorted, SortsBy, ThreeSorted, AndOfRoles, FourSorted, XorOfRoles, laxBy, OffersAll, LaxBy, nothingRead, Reads, Carries, Carried}
+use Rattle.atom_identity_rewrite.specs.Contracts.{Matched, addendOf, inUse, IsFlat, OrHeldIs, HeldIs, lastSigned, unitBy, orBy, Sorted, SortsBy, ThreeSorted, AndOfRoles, FourSorted, XorOfRoles, laxBy, OffersAll, LaxBy, nothingRead, Reads, Carries, Carried}
 use Rattle.atom_identity_rewrite.proofs.HeldLaws.{addend-is}
 use Rattle.atom_identity_rewrite.proofs.OfferLaws.{offered-none, offered-both}
 use Rattle.atom_identity_rewrite.proofs.RoleLaws.{and-not-three, xor-not-four}
@@ -76,7 +76,7 @@ module _ (ws : List ℕ) (a : Addend) (s : Reading) where
 
 module _ (ws : List ℕ) (tag w : ℕ) (o : Offer) where
   nothing-sorted : Sorted ws (unitBy tag w) (orBy tag w) [] (nothingRead tag w o .roles)
-  unfolding extract lastOf OrHeldIs HeldIs anyNegated
+  unfolding extract lastSigned OrHeldIs HeldIs anyNegated
   nothing-sorted = record { unit-is = refl; or-is = record { is = refl }; plus-is = record { is = refl }; minus-is = record { is = refl }; negated-is = refl }
 
   nothing-reads : Reads ws (nothingRead tag w o) [] (nothingRead tag w o)

@@ -18,7 +18,7 @@ use Rattle.rewriting.specs.AtomIdentityRewrite.{besideNotOf, anyNegated, extrac
 use Rattle.atom_identity_rewrite.specs.declared.candidate.Match.{Match}
 use Rattle.atom_identity_rewrite.specs.declared.candidate.Match.the-variants as matched
 use Rattle.atom_identity_rewrite.specs.declared.reading.Roles.{Roles}
-use Rattle.atom_identity_rewrite.specs.Contracts.{Standing, partTree, Matched, xorOfOrNot, unitBy, orBy, remaining, others, firstOf, lastOf, Held, Sorted, ThreeSorted, AndOfRoles, XorOfRoles}
+use Rattle.atom_identity_rewrite.specs.Contracts.{Standing, partTree, Matched, xorOfOrNot, unitBy, orBy, remaining, others, firstOf, lastSigned, Held, Sorted, ThreeSorted, AndOfRoles, XorOfRoles}
 use Rattle.atom_identity_rewrite.proofs.MatcherLaws.{match-none}
 use Rattle.atom_identity_rewrite.proofs.HeldLaws.{or-none, or-sides, held-none, held-some, held-stands, held-has, holding}
 
@@ -103,11 +103,11 @@ module _ (ws : List ℕ) (f : def.Addend → Option Expr) (g : def.Addend → Op
       }
 
   module _ (u : UnitAt) (v : OrAt u) where
-    plus-held : Held ws (r .plus) (lastOf false (v .left))
-    plus-held = subst (λ (ys : List def.Addend). Held ws (r .plus) (lastOf false ys)) (v .rest) (s .plus-is)
+    plus-held : Held ws (r .plus) (lastSigned false (v .left))
+    plus-held = subst (λ (ys : List def.Addend). Held ws (r .plus) (lastSigned false ys)) (v .rest) (s .plus-is)
 
-    minus-held : Held ws (r .minus) (lastOf true (v .left))
-    minus-held = subst (λ (ys : List def.Addend). Held ws (r .minus) (lastOf true ys)) (v .rest) (s .minus-is)
+    minus-held : Held ws (r .minus) (lastSigned true (v .left))
+    minus-held = subst (λ (ys : List def.Addend). Held ws (r .minus) (lastSigned true ys)) (v .rest) (s .minus-is)
 
 -- ---- `and_of_roles`
 
@@ -115,10 +115,10 @@ module _ (ws : List ℕ) (f : def.Addend → Option Expr) (g : def.Addend → Op
 record OneLeft (ys : List def.Addend) : Type 0 where
   addend : def.Addend
   is : only ys ≡ some addend
-  last : lastOf false ys ≡ some (addend .expr)
+  last : lastSigned false ys ≡ some (addend .expr)
 
 one-left : (ys : List def.Addend) → length ys ≡ 1 → anyNegated ys ≡ false → OneLeft ys
-unfolding only lastOf anyNegated
+unfolding only lastSigned anyNegated
 one-left [] l n = absurd (omega arith)
 one-left (a ∷ []) l n = record { addend = a; is = refl; last = ap (λ (b : Bool). onlyIf (cond b false true) (a .expr)) (neither (a .negated) false n .0) }
 one-left (a ∷ b ∷ ys) l n = absurd (omega arith)
@@ -222,8 +222,8 @@ both-none none = refl
 both-none (some a) = refl
 
 -- of two addends, one that is added and one that is subtracted: the last of each sign
-two-left : (ys : List def.Addend) → length ys ≡ 2 → plusAndMinus ys ≡ both (lastOf false ys) (lastOf true ys)
-unfolding plusAndMinus lastOf
+two-left : (ys : List def.Addend) → length ys ≡ 2 → plusAndMinus ys ≡ both (lastSigned false ys) (lastSigned true ys)
+unfolding plusAndMinus lastSigned
 two-left [] l = absurd (omega arith)
 two-left (a ∷ []) l = absurd (omega arith)
 two-left (a ∷ b ∷ []) l = by-signs (a .negated) (b .negated)
@@ -293,13 +293,13 @@ module _ (ws : List ℕ) (r : Roles) where
         or-5 = or-at ws (unitBy 5 w) (orBy 5 w) xs r s (unit-5 w xs l s) h
 
         -- of four addends, less the constant and the Or, two are left
-        pair-is : plusAndMinus (or-5 .left) ≡ both (lastOf false (or-5 .left)) (lastOf true (or-5 .left))
+        pair-is : plusAndMinus (or-5 .left) ≡ both (lastSigned false (or-5 .left)) (lastSigned true (or-5 .left))
         pair-is = two-left (or-5 .left) (let a = unit-5 w xs l s .less .fewer in let b = or-5 .less .fewer in omega arith)
 
-        plus-5 : Held ws (r .plus) (lastOf false (or-5 .left))
+        plus-5 : Held ws (r .plus) (lastSigned false (or-5 .left))
         plus-5 = plus-held ws (unitBy 5 w) (orBy 5 w) xs r s (unit-5 w xs l s) or-5
 
-        minus-5 : Held ws (r .minus) (lastOf true (or-5 .left))
+        minus-5 : Held ws (r .minus) (lastSigned true (or-5 .left))
         minus-5 = minus-held ws (unitBy 5 w) (orBy 5 w) xs r s (unit-5 w xs l s) or-5
 
         left-is : matchXorViaOrnotFlat w xs ≡ (plusAndMinus (or-5 .left) andThen xorOfPair (orSides ws (unitBy 5 w) (orBy 5 w) xs r s))
@@ -314,14 +314,14 @@ module _ (ws : List ℕ) (r : Roles) where
       xor-no-plus p = record {
         is = λ w xs l s.
             match-none ws _ (pair-gives w xs l s none (pair-is w xs l s
-            ∙ ap (λ (o : Option Expr). both o (lastOf true (or-5 w xs l s .left))) (held-none ws (r .plus) (plus-5 w xs l s) p)));
+            ∙ ap (λ (o : Option Expr). both o (lastSigned true (or-5 w xs l s .left))) (held-none ws (r .plus) (plus-5 w xs l s) p)));
       }
 
       pub xor-no-minus : r .minus .has ≡ false → XorOfRoles ws r matched.None
       xor-no-minus p = record {
         is = λ w xs l s.
             match-none ws _ (pair-gives w xs l s none (pair-is w xs l s
-            ∙ ap (both (lastOf false (or-5 w xs l s .left))) (held-none ws (r .minus) (minus-5 w xs l s) p) ∙ both-none (lastOf false (or-5 w xs l s .left))));
+            ∙ ap (both (lastSigned false (or-5 w xs l s .left))) (held-none ws (r .minus) (minus-5 w xs l s) p) ∙ both-none (lastSigned false (or-5 w xs l s .left))));
       }
 
       pub xor-matched : r .plus .has ≡ true → r .minus .has ≡ true → (m : Match)

@@ -15,7 +15,7 @@ use Rattle.atom_identity_rewrite.specs.declared.addends.Addend.{Addend}
 use Rattle.atom_identity_rewrite.specs.declared.parts.Part.{Part}
 use Rattle.atom_identity_rewrite.specs.declared.parts.Role.{Role}
 use Rattle.atom_identity_rewrite.specs.declared.reading.Roles.{Roles}
-use Rattle.atom_identity_rewrite.specs.Contracts.{partTree, factorBy, Named, addendOf, OrHeld, OrHeldIs, others, remaining, firstOf, lastOf, Held, HeldIs, Sorted, Sorts, SortsBy, unitBy, orBy}
+use Rattle.atom_identity_rewrite.specs.Contracts.{partTree, factorBy, Named, addendOf, OrHeld, OrHeldIs, others, remaining, firstOf, lastSigned, Held, HeldIs, Sorted, Sorts, SortsBy, unitBy, orBy}
 use Rattle.atom_identity_rewrite.proofs.HeldLaws.{itsRole, addend-stands, or-has, holding}
 
 -- ---- `extract` with one addend more
@@ -123,20 +123,20 @@ module _ (s : Bool) (x : def.Addend) where
   last-nil none = refl
   last-nil (some a) = refl
 
-  last-more : (xs : List def.Addend) → lastOf s (xs ++ (x ∷ [])) ≡ (signed x orElse lastOf s xs)
-  unfolding lastOf
+  last-more : (xs : List def.Addend) → lastSigned s (xs ++ (x ∷ [])) ≡ (signed x orElse lastSigned s xs)
+  unfolding lastSigned
   last-more [] = last-nil (signed x)
-  last-more (a ∷ xs) = ap (λ (o : Option Expr). o orElse signed a) (last-more xs) ∙ orElse-assoc (signed x) (lastOf s xs) (signed a)
+  last-more (a ∷ xs) = ap (λ (o : Option Expr). o orElse signed a) (last-more xs) ∙ orElse-assoc (signed x) (lastSigned s xs) (signed a)
 
-  last-same : x .negated ≡ s → (xs : List def.Addend) → lastOf s (xs ++ (x ∷ [])) ≡ some (x .expr)
-  last-same e xs = last-more xs ∙ ap (λ (b : Bool). onlyIf b (x .expr) orElse lastOf s xs) (ap (λ (n : Bool). cond n s (not s)) e ∙ itself s)
+  last-same : x .negated ≡ s → (xs : List def.Addend) → lastSigned s (xs ++ (x ∷ [])) ≡ some (x .expr)
+  last-same e xs = last-more xs ∙ ap (λ (b : Bool). onlyIf b (x .expr) orElse lastSigned s xs) (ap (λ (n : Bool). cond n s (not s)) e ∙ itself s)
     where
       itself : (b : Bool) → cond b b (not b) ≡ true
       itself true = refl
       itself false = refl
 
-  last-other : x .negated ≡ not s → (xs : List def.Addend) → lastOf s (xs ++ (x ∷ [])) ≡ lastOf s xs
-  last-other e xs = last-more xs ∙ ap (λ (b : Bool). onlyIf b (x .expr) orElse lastOf s xs) (ap (λ (n : Bool). cond n s (not s)) e ∙ other s)
+  last-other : x .negated ≡ not s → (xs : List def.Addend) → lastSigned s (xs ++ (x ∷ [])) ≡ lastSigned s xs
+  last-other e xs = last-more xs ∙ ap (λ (b : Bool). onlyIf b (x .expr) orElse lastSigned s xs) (ap (λ (n : Bool). cond n s (not s)) e ∙ other s)
     where
       other : (b : Bool) → cond (not b) b (not b) ≡ false
       other true = refl
@@ -188,8 +188,8 @@ module _ (ws : List ℕ) (a : Addend) (unit : Bool) (or : Role) (before : Roles)
           record {
             unit-is = sym (p .there);
             or-is = subst (λ (ys : List def.Addend). OrHeld ws (before .or) (firstOf (extract g ys))) (sym (p .rest)) (s .or-is);
-            plus-is = subst (λ (ys : List def.Addend). Held ws (before .plus) (lastOf false (remaining g ys))) (sym (p .rest)) (s .plus-is);
-            minus-is = subst (λ (ys : List def.Addend). Held ws (before .minus) (lastOf true (remaining g ys))) (sym (p .rest)) (s .minus-is);
+            plus-is = subst (λ (ys : List def.Addend). Held ws (before .plus) (lastSigned false (remaining g ys))) (sym (p .rest)) (s .plus-is);
+            minus-is = subst (λ (ys : List def.Addend). Held ws (before .minus) (lastSigned true (remaining g ys))) (sym (p .rest)) (s .minus-is);
             negated-is = any-is f g xs u o s n hn;
           };
     }
@@ -204,8 +204,8 @@ module _ (ws : List ℕ) (a : Addend) (unit : Bool) (or : Role) (before : Roles)
             record {
               unit-is = s .unit-is ∙ sym (l .there);
               or-is = subst (OrHeld ws or) (sym (ap (λ (ys : List def.Addend). firstOf (extract g ys)) (l .rest) ∙ p .first)) o;
-              plus-is = subst (λ (ys : List def.Addend). Held ws (before .plus) (lastOf false ys)) (sym rest) (s .plus-is);
-              minus-is = subst (λ (ys : List def.Addend). Held ws (before .minus) (lastOf true ys)) (sym rest) (s .minus-is);
+              plus-is = subst (λ (ys : List def.Addend). Held ws (before .plus) (lastSigned false ys)) (sym rest) (s .plus-is);
+              minus-is = subst (λ (ys : List def.Addend). Held ws (before .minus) (lastSigned true ys)) (sym rest) (s .minus-is);
               negated-is = any-is f g xs u o s n hn;
             };
       }
@@ -219,7 +219,7 @@ module _ (ws : List ℕ) (a : Addend) (unit : Bool) (or : Role) (before : Roles)
               ∙ left g (remaining f xs) this (or-first f g xs u o s ∙ sym hc ∙ d) .rest
 
           rest-sorted : (plus minus : Role)
-              → Held ws plus (lastOf false (remaining g (remaining f xs) ++ (this ∷ []))) → Held ws minus (lastOf true (remaining g (remaining f xs) ++ (this ∷ [])))
+              → Held ws plus (lastSigned false (remaining g (remaining f xs) ++ (this ∷ []))) → Held ws minus (lastSigned true (remaining g (remaining f xs) ++ (this ∷ [])))
               → Sorted ws f g (xs ++ (this ∷ [])) (record { unit = before .unit; or = before .or; plus = plus; minus = minus; negated = n })
           rest-sorted plus minus p m =
               let l = left f xs this (unit-first f g xs u o s ∙ sym hb ∙ e) in
@@ -227,8 +227,8 @@ module _ (ws : List ℕ) (a : Addend) (unit : Bool) (or : Role) (before : Roles)
               record {
                 unit-is = s .unit-is ∙ sym (l .there);
                 or-is = subst (OrHeld ws (before .or)) (sym (ap (λ (ys : List def.Addend). firstOf (extract g ys)) (l .rest) ∙ k .first)) (s .or-is);
-                plus-is = subst (λ (ys : List def.Addend). Held ws plus (lastOf false ys)) (sym others-more) p;
-                minus-is = subst (λ (ys : List def.Addend). Held ws minus (lastOf true ys)) (sym others-more) m;
+                plus-is = subst (λ (ys : List def.Addend). Held ws plus (lastSigned false ys)) (sym others-more) p;
+                minus-is = subst (λ (ys : List def.Addend). Held ws minus (lastSigned true ys)) (sym others-more) m;
                 negated-is = any-is f g xs u o s n hn;
               }
 

@@ -4,7 +4,7 @@ use mathlib.Core.List.{List, [], _∷_, _++_}
 use Prim.Native.Nat.{ℕ, zero, suc, _+_, _*_, _-_, _≤_, _<_}
 use native.Mathlib.Omega.{arith}
 use lib.Dec.{T}
-use lib.ListN.{length, take, drop, getD, length-append, length-take, length-drop}
+use lib.ListN.{length, take, drop, getD, length-append}
 use lib.Seq.{take-nil, take-take, drop-drop, getD-take, getD-drop}
 use mir.Syntax.{w64}
 use mir.Val.{Fits}
@@ -21,7 +21,7 @@ use Rattle.expr.specs.Span.{spanOf}
 use Rattle.expr.specs.SpanLaws.{span-encode}
 use Rattle.expr.specs.Parts.{tail, part}
 use Rattle.expr.specs.Front.{Exactly, treeAt, leftOf, rightOf}
-use Rattle.expr.specs.PartLaws.{exact-tree, exact-length, one-child, two-children, TwoChildren}
+use Rattle.expr.specs.PartLaws.{part-length, exact-tree, exact-length, one-child, two-children, TwoChildren}
 use Rattle.atom_identity_rewrite.specs.declared.parts.Part.{Part}
 use Rattle.atom_identity_rewrite.specs.Contracts.{Stands, Standing, partTree, AreOperands, IsOperand}
 
@@ -42,9 +42,6 @@ module _ (ws : List ℕ) (a n : ℕ) where
 
   part-word : (i : ℕ) → i < n → getD (part a (a + n) ws) i 0 ≡ getD ws (a + i) 0
   part-word i h = getD-take (a + n - a) (drop a ws) i 0 (omega arith) ∙ getD-drop a ws i 0
-
-  part-length : a + n ≤ length ws → length (part a (a + n) ws) ≡ n
-  part-length h = length-take (a + n - a) (drop a ws) ∙ omega (arith, length-drop a ws)
 
 -- ---- a subtree
 

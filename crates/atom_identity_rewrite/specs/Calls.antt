@@ -1,11 +1,10 @@
--- What `try_match_all` comes to, and what it leaves in the lent words. Definitions only.
-use mathlib.Core.List.{List}
+-- What `try_match_all` comes to, and what it writes. Definitions only.
+use mathlib.Core.List.{List, []}
 use mathlib.Core.Option.{Option, none, some}
 use Prim.Native.Nat.{ℕ}
 use lib.ListN.{length}
-use Rattle.expr.specs.Outcome.{Outcome, refused, accepted, mapped, _andThen_}
+use Rattle.expr.specs.Outcome.{Outcome, mapped, _andThen_}
 use Rattle.expr.specs.Expr.{encode, nodes}
-use Rattle.expr.specs.Lent.{over}
 use Rattle.width.specs.Checked.{checked, withWords}
 use Rattle.rewriting.specs.AtomIdentityRewrite.{Candidate, candidates}
 use Rattle.rewriting.specs.CandidateClaims.{numbered}
@@ -26,7 +25,7 @@ askedFor number cs = orCount (length cs) (numbered number cs)
 
 -- `try_match_all`: 1, then 2 to 7, then 9 for an output of so many words below the tree's, then the candidate or 'no more'. What is claimed of
 -- the candidate is proved by `claim-at` of crates/rewriting/specs/CandidateLaws.antt: the value for tags 1, 4 and 5, the value or its negation
--- for tags 2 and 3, no value for tags 6 and 7, and for every tag the size, the depth, the width and the variables
+-- for tags 2 and 3, no value for tags 6 and 7, and for every tag the nodes, the depth, the refusals and the variables
 unfoldable pub candidateAt : List ℕ → ℕ → ℕ → ℕ → Outcome (Asked Candidate)
 candidateAt ws w number room = mapped (λ t. askedFor number (candidates w t)) (checked w ws andThen withWords room)
 
@@ -35,8 +34,7 @@ abbrev pub told : Asked Candidate → Asked (ℕ × ℕ)
 told (candidate c) = candidate (c .tag, nodes (c .tree))
 told (noMore n) = noMore n
 
--- the lent words after the call: the candidate's at their front, and unchanged where there is none or a refusal
-abbrev pub candidateWritten : Outcome (Asked Candidate) → List ℕ → List ℕ
-candidateWritten (refused r) lent = lent
-candidateWritten (accepted (noMore n)) lent = lent
-candidateWritten (accepted (candidate c)) lent = over (encode (c .tree)) lent
+-- the words that are written: the candidate's, and none for 'no more'
+abbrev pub candidateWords : Asked Candidate → List ℕ
+candidateWords (candidate c) = encode (c .tree)
+candidateWords (noMore n) = []

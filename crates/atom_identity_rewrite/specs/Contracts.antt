@@ -8,18 +8,17 @@ use Prim.Native.Nat.{ℕ, _+_, _≤_}
 use lib.Dec.{eqb}
 use lib.ListN.{length, take, getD}
 use Rattle.arith.specs.Choice.{if_then_else_}
-use Rattle.expr.specs.Expr.{Binary, Add, Or, Xor, Expr, leaf, unary, binary, binaryNumber, encode}
+use Rattle.expr.specs.Expr.{Binary, Or, Xor, Expr, binary, binaryNumber, encode}
 use Rattle.expr.specs.Outcome.{accepted}
 use Rattle.expr.specs.Parts.{part}
-use Rattle.expr.specs.Lent.{Laid}
+use Rattle.expr.specs.Lent.{lentAfter, Laid}
 use Rattle.expr.specs.Front.{Exactly, treeAt, leftOf, rightOf}
 use Rattle.rewriting.specs.Optional.{_orElse_, onlyIf}
 use Rattle.rewriting.specs.AtomSimplifier as tree
-use Rattle.rewriting.specs.AtomSimplifier.{sameKind}
 use Rattle.rewriting.specs.AtomIdentityRewrite as def
-use Rattle.rewriting.specs.AtomIdentityRewrite.{exprEq, isNotOf, isNegKind, xorOfOrAnd, flattenAddends, anyNegated, extract, isThere, isMasked, isConstantNode, isOne, isOr, isMinusTwo, isMinusTwiceOr, laxAnd, laxXor, each, tagged}
+use Rattle.rewriting.specs.AtomIdentityRewrite.{exprEq, isNotOf, xorOfOrAnd, flattenAddends, anyNegated, extract, isThere, isMasked, isConstantNode, isOne, isOr, isMinusTwo, isMinusTwiceOr, laxAnd, laxXor, each, tagged}
 use Rattle.rewriting.specs.CandidateClaims.{numbered}
-use Rattle.atom_identity_rewrite.specs.Calls.{askedFor, told, candidateWritten}
+use Rattle.atom_identity_rewrite.specs.Calls.{askedFor, told, candidateWords}
 use Rattle.atom_identity_rewrite.specs.Answers.{candidateOutcome}
 use Rattle.atom_identity_rewrite.specs.declared.CandidateAnswer.{CandidateAnswer}
 use Rattle.atom_identity_rewrite.specs.declared.parts.Part.{Part}
@@ -147,14 +146,6 @@ xorOfOrNot l r a b = onlyIf ((exprEq l a && isNotOf r b) || (exprEq r a && isNot
 abbrev pub noAddend : Addend
 noAddend = record { start = 0; len = 0; negated = false }
 
--- the addends of a tree whose words start at `at`, each by its place
-unfoldable pub placed : Expr → ℕ → Bool → List Addend
-placed (leaf k) at s = record { start = at; len = 2; negated = s } ∷ []
-placed (unary k t) at s = if isNegKind k then placed t (at + 2) (not s) else record { start = at; len = length (encode (unary k t)); negated = s } ∷ []
-placed (binary k l r) at s =
-    if sameKind k Add then placed l (at + 2) s ++ placed r (at + 2 + length (encode l)) s
-    else record { start = at; len = length (encode (binary k l r)); negated = s } ∷ []
-
 -- the addends that are in use
 abbrev pub inUse : Addends → List Addend
 inUse a = take (a .count) (a .list)
@@ -181,6 +172,7 @@ pub record Addended (ws : List ℕ) (list : List Addend) : Type 0 where
   pub addends : List def.Addend
   pub are : AddendsAre ws list addends
 
+-- an addend stands in the words
 pub record Named (ws : List ℕ) (a : Addend) : Type 0 where
   pub addend : def.Addend
   pub is : AddendIs ws a addend
@@ -226,9 +218,9 @@ firstOf none = none
 firstOf (some p) = some (p .0)
 
 -- the last addend with that sign
-unfoldable pub lastOf : Bool → List def.Addend → Option Expr
-lastOf s [] = none
-lastOf s (x ∷ xs) = lastOf s xs orElse onlyIf (cond (x .negated) s (not s)) (x .expr)
+unfoldable pub lastSigned : Bool → List def.Addend → Option Expr
+lastSigned s [] = none
+lastSigned s (x ∷ xs) = lastSigned s xs orElse onlyIf (cond (x .negated) s (not s)) (x .expr)
 
 -- the part is the tree; where there is none, it is said not to be there
 unfoldable pub HeldIs : List ℕ → Bool → Part → Option Expr → Type 0
@@ -242,8 +234,8 @@ pub record Held (ws : List ℕ) (r : Role) (o : Option Expr) : Type 0 where
 pub record Sorted (ws : List ℕ) (f : def.Addend → Option Expr) (g : def.Addend → Option (Expr × Expr)) (xs : List def.Addend) (r : Roles) : Type 0 where
   pub unit-is : r .unit ≡ isThere (extract f xs)
   pub or-is : OrHeld ws (r .or) (firstOf (extract g (remaining f xs)))
-  pub plus-is : Held ws (r .plus) (lastOf false (remaining g (remaining f xs)))
-  pub minus-is : Held ws (r .minus) (lastOf true (remaining g (remaining f xs)))
+  pub plus-is : Held ws (r .plus) (lastSigned false (remaining g (remaining f xs)))
+  pub minus-is : Held ws (r .minus) (lastSigned true (remaining g (remaining f xs)))
   pub negated-is : r .negated ≡ anyNegated xs
 
 -- one addend more, of which is known whether it is the constant, and the Or that it is or has
@@ -341,4 +333,4 @@ pub record Writes (ws : List ℕ) (c : Candidate) (before after : List ℕ) (n :
 -- the answer and the lent words are what the definition asks for
 pub record Answers (ws : List ℕ) (w number : ℕ) (r : CandidateAnswer) (before after : List ℕ) : Type 0 where
   pub answer : candidateOutcome r ≡ accepted (told (askedFor number (def.candidates w (treeAt ws))))
-  pub memory : after ≡ candidateWritten (accepted (askedFor number (def.candidates w (treeAt ws)))) before
+  pub memory : after ≡ lentAfter candidateWords (accepted (askedFor number (def.candidates w (treeAt ws)))) before

@@ -7,9 +7,10 @@ ghost use Rattle.expr.specs.Outcome.{mapped, _andThen_};
 ghost use Rattle.expr.specs.Expr.{nodes};
 ghost use Rattle.expr.specs.Front.{Whole, treeAt};
 ghost use Rattle.expr.specs.Answers.{countedOutcome};
+ghost use Rattle.expr.specs.Lent.{lentAfter};
 ghost use Rattle.width.specs.Checked.{checked, withWords};
 ghost use Rattle.rewriting.specs.AtomIdentityRewrite.{toList, matchXorAndAbsorb, matchXorViaOrMinusAnd, matchAndViaNotOrMinusNot, flattenAddends, matchAndViaNotOrPlusAPlusOne, matchXorViaOrnotFlat, laxCandidates, candidates};
-ghost use Rattle.atom_identity_rewrite.specs.Calls.{candidateAt, told, candidateWritten};
+ghost use Rattle.atom_identity_rewrite.specs.Calls.{candidateAt, told, candidateWords};
 ghost use Rattle.atom_identity_rewrite.specs.Answers.{candidateOutcome};
 ghost use Rattle.atom_identity_rewrite.specs.Contracts.{IsFlat, OffersAll, OffersList, sumCandidates, Offered, Answers};
 
@@ -174,7 +175,7 @@ fn hand_over(words: &[u64], width: u32, number: usize, out: &mut [u64]) -> Candi
 // The candidate of that number, from 0, with its tag; its words are written at the front of `out`, and nothing else. A number past the last
 // answers how many there are.
 pub fn try_match_all(words: &[u64], width: u32, number: usize, out: &mut [u64]) -> CandidateAnswer
-    ensures { λ r. ⌜ (candidateOutcome r ≡ mapped told (candidateAt (now (words .entry)) width number (length (now (out .entry))))) × (now (out .exit) ≡ candidateWritten (candidateAt (now (words .entry)) width number (length (now (out .entry)))) (now (out .entry))) ⌝ }
+    ensures { λ r. ⌜ (candidateOutcome r ≡ mapped told (candidateAt (now (words .entry)) width number (length (now (out .entry))))) × (now (out .exit) ≡ lentAfter candidateWords (candidateAt (now (words .entry)) width number (length (now (out .entry)))) (now (out .entry))) ⌝ }
 {
     match admit(words, width, out.len()) {
         Counted::Refused(r) => CandidateAnswer::Refused(r),

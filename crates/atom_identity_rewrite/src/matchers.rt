@@ -164,7 +164,7 @@ fn and_of_or_not(words: &[u64], or_side: Part, not_side: Part) -> Match
     and_beside(words, a_inside_not, or_side)
 }
 
-// The And of a and what stands beside Not of a in an Or; the left operand is asked first whether it is that Not.
+// The And of a and what stands beside Not of a in an Or; the left operand is tested first.
 fn and_beside(words: &[u64], a: Part, or_side: Part) -> Match
     requires { ⌜ Standing (now words) a × Standing (now words) «or_side» × (getD (now words) («or_side» .start) 0 ≡ 5) × (length (now words) ≤ 1024) ⌝ }
     ensures { λ r. ⌜ Matched (now (words .entry)) r (map (binary And (partTree (now (words .entry)) a)) (besideNotOf (partTree (now (words .entry)) a) (leftOf (partTree (now (words .entry)) «or_side»)) (rightOf (partTree (now (words .entry)) «or_side»)))) ⌝ }
@@ -405,7 +405,7 @@ fn xor_of_not(words: &[u64], not_side: Part, other: Part) -> Match
 
 // ---- helpers
 
-// X and Y of `Neg Y + X` or `X + Neg Y`; the left operand is asked first whether it is that Neg.
+// X and Y of `Neg Y + X` or `X + Neg Y`; the left operand is tested first.
 fn match_binary_add_with_neg(words: &[u64], node: Part) -> Sides
     requires { ⌜ Standing (now words) node × (length (now words) ≤ 1024) ⌝ }
     ensures { λ r. ⌜ SidesAre (now (words .entry)) r (matchBinaryAddWithNeg (partTree (now (words .entry)) node)) ⌝ }

@@ -131,7 +131,7 @@ pub(crate) fn or_node(words: &[u64], part: Part) -> Role
     }
 }
 
-// Whether the subtree is the factor that the tag wants beside an Or: 2 under the mask for tag 5, any Constant for tag 7.
+// Whether the subtree is the factor beside an Or that the tag looks for: 2 under the mask for tag 5, any Constant for tag 7.
 fn is_factor(words: &[u64], tag: u64, width: u32, part: Part) -> bool
     requires { ⌜ Standing (now words) part × (length (now words) ≤ 1024) ⌝ }
     ensures { λ r. ⌜ r ≡ factorBy tag width (partTree (now (words .entry)) part) ⌝ }
@@ -156,7 +156,7 @@ fn or_beside(words: &[u64], tag: u64, width: u32, factor: Part, other: Part) -> 
     }
 }
 
-// The Or in a product with a factor; the left operand is asked first whether it is the factor.
+// The Or in a product with a factor; the left operand is tested first.
 pub(crate) fn or_in_product(words: &[u64], tag: u64, width: u32, part: Part) -> Role
     requires { ⌜ Standing (now words) part × (length (now words) ≤ 1024) ⌝ }
     ensures { λ r. ⌜ OrHeld (now (words .entry)) r (orInProduct (factorBy tag width) (partTree (now (words .entry)) part)) ⌝ }

@@ -12,7 +12,7 @@ use crate::parts;
 use crate::parts::Part;
 use crate::parts::Role;
 
-// The parts that addends play in tags 4 and 5: the constant, the Or, and of the others the last that is added and the last that is subtracted.
+// The roles of addends in tags 4 and 5: the constant, the Or, and of the others the last that is added and the last that is subtracted.
 pub(crate) struct Roles {
     pub unit: bool,
     pub or: Role,
@@ -91,6 +91,7 @@ fn or_role(words: &[u64], tag: u64, width: u32, a: Addend) -> Role
     Role { has: false, part }
 }
 
+// A function, so that its two arms meet outside its caller, whose proof would else have to take them apart.
 fn either(a: bool, b: bool) -> bool
     ensures { λ r. ⌜ r ≡ (a || b) ⌝ }
 {
@@ -100,7 +101,7 @@ fn either(a: bool, b: bool) -> bool
     b
 }
 
-// Whether it is so, and was not before.
+// Whether it is so, and was not before; a function for the same reason.
 fn only_now(now: bool, before: bool) -> bool
     ensures { λ r. ⌜ r ≡ (now && not before) ⌝ }
 {
@@ -115,10 +116,17 @@ fn sort(words: &[u64], roles: Roles, a: Addend, unit: bool, or: Role) -> Roles
     requires { ⌜ Named (now words) a ⌝ }
     ensures { λ r. ⌜ Sorts (now (words .entry)) a unit or roles r ⌝ }
 {
-    let negated = either(roles.negated, a.negated);
     let or_before = roles.or;
-    let plus = roles.plus;
-    let minus = roles.minus;
+    let mut next = roles;
+    next.negated = either(roles.negated, a.negated);
+    if only_now(unit, roles.unit) {
+        next.unit = true;
+        return next;
+    }
+    if only_now(or.has, or_before.has) {
+        next.or = or;
+        return next;
+    }
     let this = Role {
         has: true,
         part: Part {
@@ -126,40 +134,12 @@ fn sort(words: &[u64], roles: Roles, a: Addend, unit: bool, or: Role) -> Roles
             len: a.len,
         },
     };
-    if only_now(unit, roles.unit) {
-        return Roles {
-            unit: true,
-            or: or_before,
-            plus,
-            minus,
-            negated,
-        };
-    }
-    if only_now(or.has, or_before.has) {
-        return Roles {
-            unit: roles.unit,
-            or,
-            plus,
-            minus,
-            negated,
-        };
-    }
     if a.negated {
-        return Roles {
-            unit: roles.unit,
-            or: or_before,
-            plus,
-            minus: this,
-            negated,
-        };
+        next.minus = this;
+    } else {
+        next.plus = this;
     }
-    Roles {
-        unit: roles.unit,
-        or: or_before,
-        plus: this,
-        minus,
-        negated,
-    }
+    next
 }
 
 fn sort_by_tag(words: &[u64], tag: u64, width: u32, roles: Roles, a: Addend) -> Roles

@@ -3,7 +3,7 @@ use mathlib.Core.Path.{_≡_, refl, sym, ap, ap₂, subst, _∙_}
 use mathlib.Core.Bool.{Bool, true, false}
 use mathlib.Core.List.{List}
 use mathlib.Core.Option.{Option, none, some}
-use Prim.Native.Nat.{ℕ, _+_, _*_, _-_, _/_, _≤_, _<_}
+use Prim.Native.Nat.{ℕ, _+_, _*_, _/_, _≤_, _<_}
 use native.Mathlib.Omega.{arith}
 use lib.Dec.{ltb}
 use lib.ListN.{length}
@@ -20,14 +20,12 @@ use Rattle.expr.specs.Outcome.{Outcome, refused, accepted, mapped, _andThen_}
 use Rattle.expr.specs.OutcomeLaws.{then-accepted, mapped-accepted, mapped-made, refused-then, refused-mapped}
 use Rattle.expr.specs.Expr.{Expr, encode, nodes, depth}
 use Rattle.expr.specs.ExprLaws.{length-encode}
-use Rattle.expr.specs.Parse.{parse}
 use Rattle.expr.specs.ParseLaws.{parse-sound}
 use Rattle.expr.specs.Answers.{countedOutcome}
 use Rattle.expr.specs.Front.{Starts, Exactly, Whole, treeAt}
 use Rattle.expr.specs.PartLaws.{exact-front, exact-tree, exact-whole}
-use Rattle.width.specs.Width.{supported}
 use Rattle.width.specs.Checked.{checked}
-use Rattle.width.specs.CheckedLaws.{checked-then, Tree, checked-tree}
+use Rattle.width.specs.CheckedLaws.{checked-is, Tree, checked-tree}
 use Rattle.width.specs.WidthLaws.{supported-is}
 use Rattle.rewriting.specs.Optional.{map}
 use Rattle.rewriting.specs.AtomSimplifier as def
@@ -47,21 +45,18 @@ use Rattle.atom_simplifier.proofs.SearchLaws.{none-is, found-is}
 -- ---- `admit`
 
 module _ (ws : List ℕ) (w room : ℕ) (x : Counted) (h : countedOutcome x ≡ mapped nodes (checked w ws)) where
-  asked : (checked w ws andThen withRoom room) ≡ admitted ws w room
-  unfolding admitted
-  asked = sym (checked-then w ws (λ o. o andThen withRoom room) refl)
-
   pub words-refused : (r : Refusal) → x ≡ counted.Refused r → refused (reasonOf r) ≡ mapped nodes (admitted ws w room)
-  words-refused r e = ap (mapped nodes) (refused-then nodes (withRoom room) (checked w ws) (ap countedOutcome (sym e) ∙ h) ∙ asked)
+  unfolding admitted
+  words-refused r e = ap (mapped nodes) (refused-then nodes (withRoom room) (checked w ws) (ap countedOutcome (sym e) ∙ h))
 
   module _ (n : ℕ) (e : x ≡ counted.Count n) where
     m : Tree w ws n
     m = checked-tree w ws x h n e
 
     roomed : (b : Bool) → ltb room (2 * (n + 1)) ≡ b → admitted ws w room ≡ (if b then refused (refusal 9) else accepted (m .tree))
-    unfolding withRoom
+    unfolding admitted withRoom
     roomed b f =
-        sym asked ∙ then-accepted (m .is) (withRoom room)
+        then-accepted (m .is) (withRoom room)
         ∙ ap (λ (c : Bool). if c then refused (refusal 9) else accepted (m .tree)) (ap (λ (i : ℕ). ltb room (2 * (i + 1))) (m .count) ∙ f)
 
     pub room-refused : room < 2 * (n + 1) → refused (refusal 9) ≡ mapped nodes (admitted ws w room)
@@ -89,32 +84,28 @@ record Admitted (ws : List ℕ) (w room : ℕ) (t : Expr) : Type 0 where
 
 admitted-sound : (ws : List ℕ) (w room : ℕ) (t : Expr) → admitted ws w room ≡ accepted t → Admitted ws w room t
 unfolding admitted withRoom
-admitted-sound ws w room t e = ranged (supported w) refl e
+admitted-sound ws w room t e = passed (checked w ws) refl e
   where
     no : {A : Type 0} {r : Reason} {s : Expr} → _≡_ {A = Outcome Expr} (refused r) (accepted s) → A
     no f = absurd (let z : _≡_ {A = ℕ} 0 1 = cc in omega arith)
 
-    roomy : supported w ≡ true → (u : Expr) → parse ws ≡ accepted u → (b : Bool) → ltb room (2 * (nodes u + 1)) ≡ b
-        → (if b then refused (refusal 9) else accepted u) ≡ accepted t → Admitted ws w room t
-    roomy s u p true q f = no f
-    roomy s u p false q f =
+    roomy : (u : Expr) → checked w ws ≡ accepted u → (b : Bool) → ltb room (2 * (nodes u + 1)) ≡ b → (if b then refused (refusal 9) else accepted u) ≡ accepted t → Admitted ws w room t
+    roomy u p true q f = no f
+    roomy u p false q f =
         let i : u ≡ t = cc in
-        let v = parse-sound ws u p in
+        let c = checked-is w ws u p in
+        let v = parse-sound ws u (c .1) in
         subst (Admitted ws w room) i (record {
           exact = record { words = v .words; operands = v .valid .operands };
           few = v .valid .count;
           levels = v .valid .levels;
-          at-most = supported-is w s .1;
+          at-most = supported-is w (c .0) .1;
           holds = ltb-false room (2 * (nodes u + 1)) q;
         })
 
-    parsed : supported w ≡ true → (o : Outcome Expr) → parse ws ≡ o → (o andThen withRoom room) ≡ accepted t → Admitted ws w room t
-    parsed s (refused r) p f = no f
-    parsed s (accepted u) p f = roomy s u p (ltb room (2 * (nodes u + 1))) refl f
-
-    ranged : (b : Bool) → supported w ≡ b → (if b then parse ws andThen withRoom room else refused (refusal 1)) ≡ accepted t → Admitted ws w room t
-    ranged true s f = parsed s (parse ws) refl f
-    ranged false s f = no f
+    passed : (o : Outcome Expr) → checked w ws ≡ o → (o andThen withRoom room) ≡ accepted t → Admitted ws w room t
+    passed (refused r) p f = no f
+    passed (accepted u) p f = roomy u p (ltb room (2 * (nodes u + 1))) refl f
 
 module _ (ws : List ℕ) (w room : ℕ) (x : Counted) (h : countedOutcome x ≡ mapped nodes (admitted ws w room)) where
   module _ (n : ℕ) (e : x ≡ counted.Count n) where

@@ -3,7 +3,7 @@ use mathlib.Core.Path.{_≡_, refl, sym, ap, ap₂, subst, _∙_}
 use mathlib.Core.List.{List, [], _∷_, _++_, append-nil}
 use Prim.Native.Nat.{ℕ, _+_, _-_, _^_, _≤_, _<_}
 use native.Mathlib.Omega.{arith}
-use lib.ListN.{length, take, drop, getD, set, replicate, take-append-drop, length-append, length-drop, length-set, length-replicate, getD-replicate, drop-of-length-le}
+use lib.ListN.{length, take, drop, getD, set, replicate, take-append-drop, length-append, length-set, length-replicate, getD-replicate, drop-of-length-le}
 use lib.Seq.{take-all, length-take-le, getD-append-add, getD-take, getD-drop, drop-drop}
 use mir.Syntax.{w64}
 use mir.Val.{Fits}
@@ -12,16 +12,14 @@ use Rattle.expr.specs.Parts.{tail, part}
 use Rattle.expr.specs.TailLaws.{tail-drop, length-tail}
 use Rattle.expr.specs.Lent.{Laid}
 use Rattle.expr.specs.LentLaws.{laid-length, laid-on}
+use Rattle.expr.specs.PartLaws.{part-length}
 use Rattle.atom_simplifier.proofs.WriteLaws.{Copied, none-copied, one-copied}
 
 -- ---- `move_down`
 
 module _ (by len : ℕ) (before : List ℕ) (h : by + len ≤ length before) where
-  part-length : length (part by (by + len) before) ≡ len
-  part-length = let e : by + len - by ≡ len = omega arith in length-take-le (by + len - by) (drop by before) (omega (arith, length-drop by before)) ∙ e
-
   pub none-moved : Copied (part by (by + len) before) before before 0
-  none-moved = none-copied (part by (by + len) before) before (omega (arith, part-length))
+  none-moved = none-copied (part by (by + len) before) before (omega (arith, part-length before by len h))
 
   module _ (after : List ℕ) (i : ℕ) (c : Copied (part by (by + len) before) before after i) where
     module _ (l : i < len) where
@@ -41,7 +39,7 @@ module _ (by len : ℕ) (before : List ℕ) (h : by + len ≤ length before) whe
       pub one-moved : Copied (part by (by + len) before) before (set after i (getD after (by + i) 0)) (i + 1)
       one-moved =
           subst (λ (x : ℕ). Copied (part by (by + len) before) before (set after i x) (i + 1)) (sym read)
-          (one-copied (part by (by + len) before) before (omega (arith, part-length)) after i c (omega (arith, part-length)))
+          (one-copied (part by (by + len) before) before (omega (arith, part-length before by len h)) after i c (omega (arith, part-length before by len h)))
 
       pub move-reads : by + i < length after
       move-reads = omega (arith, c .long)
@@ -55,13 +53,13 @@ module _ (by len : ℕ) (before : List ℕ) (h : by + len ≤ length before) whe
     pub all-moved : len ≤ i → Laid before after (part by (by + len) before)
     all-moved f =
         let s = part by (by + len) before in
-        let e : i ≡ length s = omega (arith, c .turn, part-length) in
+        let e : i ≡ length s = omega (arith, c .turn, part-length before by len h) in
         record { is = c .is ∙ ap (λ (j : ℕ). take j s ++ drop j before) e ∙ ap (λ (l : List ℕ). l ++ drop (length s) before) (take-all (length s) s (omega arith)) }
 
 -- words that stand at the front already
 pub not-moved : (by len : ℕ) (before : List ℕ) → by + len ≤ length before → by ≡ 0 → Laid before before (part by (by + len) before)
 not-moved by len before h e =
-    let n = part-length by len before h in
+    let n = part-length before by len h in
     record {
       is =
           sym (ap₂ (λ (u v : List ℕ). u ++ v)
@@ -111,16 +109,16 @@ module _ (at len c : ℕ) (before : List ℕ) (g : 2 ≤ at) (h : at + len ≤ l
     pub join-moved : (third : List ℕ) → Laid (tail (2 + len) moved) third (0 ∷ c ∷ [])
         → Laid before (putMid (2 + len) (length moved - (2 + len)) moved third) (((getD before 0 0 ∷ 0 ∷ []) ++ part at (at + len) before) ++ (0 ∷ c ∷ []))
     join-moved third m =
-        let e : 2 + len ≡ length ((getD before 0 0 ∷ 0 ∷ []) ++ part at (at + len) before) = omega (arith, part-length at len before h) in
+        let e : 2 + len ≡ length ((getD before 0 0 ∷ 0 ∷ []) ++ part at (at + len) before) = omega (arith, part-length before at len h) in
         laid-on before moved _ both-laid (2 + len) e third (0 ∷ c ∷ []) m
 
     pub join-long : (third : List ℕ) → 4 + len ≤ length before → Laid (tail (2 + len) moved) third (0 ∷ c ∷ []) → length (putMid (2 + len) (length moved - (2 + len)) moved third) ≡ length before
     join-long third f m =
         laid-length before _ _ (join-moved third m)
-        (omega (arith, length-append ((getD before 0 0 ∷ 0 ∷ []) ++ part at (at + len) before) (0 ∷ c ∷ []), part-length at len before h))
+        (omega (arith, length-append ((getD before 0 0 ∷ 0 ∷ []) ++ part at (at + len) before) (0 ∷ c ∷ []), part-length before at len h))
 
     pub moved-long : 4 + len ≤ length before → length moved ≡ length before
-    moved-long f = laid-length before moved _ both-laid (omega (arith, part-length at len before h))
+    moved-long f = laid-length before moved _ both-laid (omega (arith, part-length before at len h))
 
     pub last-inside : 4 + len ≤ length before → 2 ≤ length (tail (2 + len) moved)
     last-inside f = omega (arith, length-tail (2 + len) moved, moved-long f)

@@ -30,11 +30,12 @@ use Rattle.expr.specs.PartLaws.{exact-front, parts, OneChild, TwoChildren, exac
 use Rattle.rewriting.specs.Optional.{onlyIf, _equalsSome_}
 use Rattle.rewriting.specs.AtomSimplifier as def
 use Rattle.rewriting.specs.AtomSimplifier.{constant, isNotKind, isNot, constantVal, samePart, Bitwise, and, or, xor, kindOf, foldRewrite, deMorgan, notRewrite, unaryRewrite, binaryRewrite, localRewrite}
+use Rattle.rewriting.specs.TestLaws.{not-number}
 use Rattle.atom_simplifier.specs.declared.local.Decision.{Decision}
 use Rattle.atom_simplifier.specs.declared.local.Decision.the-variants as local
 use Rattle.atom_simplifier.specs.Contracts.{isConstant, bitwiseOf, IsBitwise, Within, Holds, dualNumber, Makes, Decides}
 use Rattle.atom_simplifier.proofs.DecideLaws.{decides-none, decides-some, all-within, left-holds, part-within}
-use Rattle.atom_simplifier.proofs.OperandLaws.{arity-one, arity-two, number-not, number-bitwise, bitwise-arity, is-not-kind}
+use Rattle.atom_simplifier.proofs.OperandLaws.{arity-one, arity-two, number-not, number-bitwise, bitwise-arity}
 
 -- ---- a node with one child
 
@@ -115,7 +116,7 @@ pub root-not : (t : Expr) → isNot t ≡ eqb (getD (encode t) 0 0) 7
 unfolding encode
 root-not (leaf (Constant c)) = refl
 root-not (leaf (Variable i)) = refl
-root-not (unary k t) = is-not-kind k
+root-not (unary k t) = not-number k
 root-not (binary Add l r) = refl
 root-not (binary Mul l r) = refl
 root-not (binary And l r) = refl
@@ -138,7 +139,7 @@ if-none false = refl
 no-not-rule : (t : Expr) → (getD (encode t) 0 0 ≡ 7 → ⊥) → (getD (encode t) 0 0 ≡ 4 → ⊥) → (getD (encode t) 0 0 ≡ 5 → ⊥) → notRewrite t ≡ none
 unfolding notRewrite encode
 no-not-rule (leaf k) e f g = refl
-no-not-rule (unary k t) e f g = ap (λ (b : Bool). onlyIf b t) (is-not-kind k ∙ ne-eqb (unaryNumber k) 7 e)
+no-not-rule (unary k t) e f g = ap (λ (b : Bool). onlyIf b t) (not-number k ∙ ne-eqb (unaryNumber k) 7 e)
 no-not-rule (binary Add a b) e f g = if-none (isNot a || isNot b)
 no-not-rule (binary Mul a b) e f g = if-none (isNot a || isNot b)
 no-not-rule (binary And a b) e f g = absurd (f refl)
@@ -189,7 +190,7 @@ module _ (node : List ℕ) (t : Expr) (x : Exactly node t) (e : getD node 0 0 �
     unfolding Makes notRewrite
     double-goes =
         let c = one-child (tail 2 node) (leftOf t) child-exact a₂ in
-        let k : isNotKind (c .kind) ≡ true = is-not-kind (c .kind) ∙ eq-eqb (unaryNumber (c .kind)) 7 (sym (c .number-is) ∙ tail-word ∙ f) in
+        let k : isNotKind (c .kind) ≡ true = not-number (c .kind) ∙ eq-eqb (unaryNumber (c .kind)) 7 (sym (c .number-is) ∙ tail-word ∙ f) in
         let h = child-holds (tail 2 node) (leftOf t) child-exact a₂ in
         let m : length (tail 2 node) - 2 ≡ length node - 4 = omega (arith, length-tail 2 node) in
         decides-some node (local.Part 4 (length node - 4)) _ (leftOf (leftOf t))

@@ -3,7 +3,7 @@ use mathlib.Core.Path.{_≡_, refl, sym, ap, subst, _∙_}
 use mathlib.Core.Bool.{Bool, true, false, _&&_, _||_}
 use mathlib.Core.List.{List}
 use mathlib.Core.Option.{Option, none, some}
-use Prim.Native.Nat.{ℕ, _+_, _*_, _-_, _≤_}
+use Prim.Native.Nat.{ℕ, _+_, _*_, _≤_}
 use native.Mathlib.Omega.{arith}
 use lib.Dec.{T, eqb}
 use lib.ListN.{length, getD, length-append}
@@ -17,7 +17,7 @@ use Rattle.expr.specs.declared.Arity.the-variants as arity
 use Rattle.expr.specs.declared.Counted.{Counted}
 use Rattle.expr.specs.declared.Counted.the-variants.{Count, Refused}
 use Rattle.expr.specs.Outcome.{accepted}
-use Rattle.expr.specs.Expr.{Leaf, Constant, Variable, Unary, Not, Neg, Shr, ZExt, SExt, Trunc, Expr, leaf, unary, binary, leafNumber, leafOperand, unaryNumber, binaryNumber, encode, nodes}
+use Rattle.expr.specs.Expr.{Leaf, Constant, Variable, Not, Expr, leaf, unary, binary, leafNumber, leafOperand, unaryNumber, binaryNumber, encode, nodes}
 use Rattle.expr.specs.ExprLaws.{nodes-pos, length-encode}
 use Rattle.expr.specs.Parse.{arityOf, wordCountOk}
 use Rattle.expr.specs.Parse as kinds
@@ -33,6 +33,7 @@ use Rattle.expr.specs.FrontLaws.{leaf-node}
 use Rattle.expr.specs.PartLaws.{exact-front, parts, TwoChildren, exact-length, one-child, two-children, child-tree, left-tree, right-tree}
 use Rattle.rewriting.specs.Optional.{_equalsSome_}
 use Rattle.rewriting.specs.AtomSimplifier.{isNotKind, constantVal, samePart, isNotOf, areComplements, containsOperand, kindOf}
+use Rattle.rewriting.specs.TestLaws.{not-number}
 use Rattle.atom_simplifier.specs.declared.fold.ConstantVal.{ConstantVal}
 use Rattle.atom_simplifier.specs.declared.fold.ConstantVal.the-variants as val
 use Rattle.atom_simplifier.specs.Contracts.{constantOption, isConstant, eitherConstant, bitwiseOf, IsBitwise}
@@ -57,14 +58,6 @@ number-bitwise ws op e b = ap arityOf (e ∙ b) ∙ number-arity (kinds.two (kin
 
 pub bitwise-arity : (ws : List ℕ) → IsBitwise (getD ws 0 0) → arityOf (getD ws 0 0) ≡ accepted 2
 bitwise-arity ws b = number-bitwise ws (getD ws 0 0) refl b
-
-pub is-not-kind : (k : Unary) → isNotKind k ≡ eqb (unaryNumber k) 7
-is-not-kind Not = refl
-is-not-kind Neg = refl
-is-not-kind (Shr k) = refl
-is-not-kind (ZExt n) = refl
-is-not-kind (SExt n) = refl
-is-not-kind (Trunc n) = refl
 
 leaf-constant : (w : ℕ) (k : Leaf) → constantVal w (leaf k) ≡ (if eqb (leafNumber k) 0 then some (leafOperand k) else none)
 leaf-constant w (Constant c) = refl
@@ -116,7 +109,7 @@ module _ (ws : List ℕ) (t : Expr) (x : Exactly ws t) (w : ℕ) (u : Expr) wher
   unfolding isNotOf
   not-of e r h =
       let n = one-child ws t x (number-not ws e) in
-      let k : isNotKind (n .kind) ≡ true = is-not-kind (n .kind) ∙ eq-eqb (unaryNumber (n .kind)) 7 (sym (n .number-is) ∙ e) in
+      let k : isNotKind (n .kind) ≡ true = not-number (n .kind) ∙ eq-eqb (unaryNumber (n .kind)) 7 (sym (n .number-is) ∙ e) in
       h ∙ ap (λ (s : Expr). samePart w s u) (child-tree ws t x (number-not ws e))
       ∙ sym (ap (λ (s : Expr). isNotOf w s u) (n .is) ∙ ap (λ (b : Bool). b && samePart w (leftOf t) u) k)
 
@@ -124,7 +117,7 @@ pub no-not-of : (ws : List ℕ) (t : Expr) → Exactly ws t → (w : ℕ) (u : E
 unfolding encode isNotOf
 no-not-of ws (leaf k) x w u f = refl
 no-not-of ws (unary k t) x w u f =
-    let n : isNotKind k ≡ false = is-not-kind k ∙ ne-eqb (unaryNumber k) 7 (λ e. f (ap (λ (l : List ℕ). getD l 0 0) (x .words) ∙ e)) in
+    let n : isNotKind k ≡ false = not-number k ∙ ne-eqb (unaryNumber k) 7 (λ e. f (ap (λ (l : List ℕ). getD l 0 0) (x .words) ∙ e)) in
     sym (ap (λ (b : Bool). b && samePart w t u) n)
 no-not-of ws (binary k l r) x w u f = refl
 

@@ -1,16 +1,16 @@
 -- What the public calls come to, and what the two that write a rewrite leave in the lent places. Definitions only.
-use mathlib.Core.List.{List}
-use mathlib.Core.Option.{Option, none, some}
+use mathlib.Core.List.{List, []}
+use mathlib.Core.Option.{Option}
 use Prim.Native.Nat.{ℕ, _+_, _*_}
 use lib.Dec.{ltb}
 use Rattle.arith.specs.Choice.{if_then_else_}
 use Rattle.expr.specs.Refusals.{refusal}
 use Rattle.expr.specs.Outcome.{Outcome, refused, accepted, mapped, _andThen_}
 use Rattle.expr.specs.Expr.{Expr, nodes}
-use Rattle.expr.specs.Parse.{parse}
-use Rattle.expr.specs.Lent.{over}
-use Rattle.width.specs.Width.{supported}
+use Rattle.expr.specs.Lent.{lentAfter}
+use Rattle.width.specs.Checked.{checked}
 use Rattle.value.specs.Value.{oneWidth}
+use Rattle.rewriting.specs.Optional.{map, _otherwise_}
 use Rattle.rewriting.specs.Measures.{D}
 use Rattle.rewriting.specs.AtomSimplifier.{Site, localRewrite, firstSite}
 
@@ -20,7 +20,7 @@ withRoom room t = if ltb room (2 * (nodes t + 1)) then refused (refusal 9) else 
 
 -- the tree that is rewritten, or the refusal: 1, then 2 to 7, then 9
 unfoldable pub admitted : List ℕ → ℕ → ℕ → Outcome Expr
-admitted ws w room = if supported w then parse ws andThen withRoom room else refused (refusal 1)
+admitted ws w room = checked w ws andThen withRoom room
 
 -- `local_certifiable_atom_rewrite`: the local rewrite of the tree, if it has one
 unfoldable pub localRewriteAt : List ℕ → ℕ → ℕ → Outcome (Option Expr)
@@ -31,7 +31,7 @@ unfoldable pub firstSiteAt : List ℕ → ℕ → ℕ → ℕ → Outcome (Optio
 firstSiteAt ws w bytes room =
     admitted ws w room andThen (λ t. if ltb bytes 63 then refused (refusal 9) else accepted (firstSite w t))
 
--- 9 where a work of so many words has no room for n + D nodes
+-- 9 where so many words of work, in document 01's terms the lent words in which a chain builds its end tree, have no room for n + D nodes
 unfoldable pub withWork : ℕ → Expr → Outcome Expr
 withWork room t = if ltb room (2 * (nodes t + D t)) then refused (refusal 9) else accepted t
 
@@ -43,6 +43,4 @@ chainAdmitted ws w widths room = oneWidth ws w widths andThen withWork room
 
 -- the lent places after the call: f of the answer at their front, and unchanged where there is none or a refusal
 abbrev pub written : {A : Type 0} → (A → List ℕ) → Outcome (Option A) → List ℕ → List ℕ
-written f (refused r) lent = lent
-written f (accepted none) lent = lent
-written f (accepted (some a)) lent = over (f a) lent
+written f = lentAfter (λ o. map f o otherwise [])

@@ -12,10 +12,10 @@ use Rattle.rewriting.specs.AtomSimplifier.{firstSite}
 use Rattle.rewriting.specs.Measures.{D, occurrences}
 use Rattle.rewriting.specs.Chain.{Listed, lastOf}
 
--- for the tree t, which is of one width at width w and the widths of the variables, the chain has answered n nodes and `count` rewrites and
+-- for the tree t, which is of one width at width w and the width list, the chain has answered n nodes and `count` rewrites and
 -- left the words `after` in the work
 pub record Chained (w : ℕ) (widths : List ℕ) (t : Expr) (after : List ℕ) (n count : ℕ) : Type 0 where
-  -- document 01's list of trees; the end tree is its last, and the rewrites are one fewer than the trees
+  -- document 01's list of trees; its end tree is the last, and the rewrites are one fewer than the trees
   pub trees : List Expr
   pub listed : Listed w t trees
   pub end : Expr

@@ -151,7 +151,7 @@ atRoot n (Constant c) = Found (record { at = 0; words = n; levels = 0; local = C
 atRoot n (Join at len c) = Found (record { at = 0; words = n; levels = 0; local = Join at len c })
 atRoot n (DeMorgan right) = Found (record { at = 0; words = n; levels = 0; local = DeMorgan right })
 
--- a site of the child whose words begin at `from`, as its parent sees it
+-- a site of the child whose words begin at `from`, by its place and level in the parent
 abbrev pub underParent : ℕ → Site → Site
 underParent from s = record { at = s .at + from; words = s .words; levels = s .levels + 1; local = s .local }
 

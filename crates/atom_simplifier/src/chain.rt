@@ -41,7 +41,7 @@ pub(crate) struct PairsRead {
     found: Pairs,
 }
 
-// The words of the tree that a node has come to, and the rewrites that it took.
+// How many words the tree has that a node has come to, and how many rewrites it took.
 pub(crate) struct Settled {
     len: usize,
     count: usize,
@@ -159,7 +159,7 @@ fn settle_two(node: &mut [u64], right: usize, len: usize, width: u32) -> Settled
     rewrite_two(node, decided, len, width)
 }
 
-// A node whose left child is at its end, up to `at`, and whose right child is a Not over the operand at `right`.
+// A node whose left child has no site and ends at `at`, and whose right child is a Not over the operand at `right`.
 fn settle_second(node: &mut [u64], at: usize, right: usize, len: usize, width: u32) -> Settled
     requires { ⌜ HalfTurned width (now node) at right len × (width ≤ 64) ⌝ }
     ensures { λ r. ⌜ HalfEnds width (now (node .entry)) at right len (now (node .exit)) (r .len) (r .count) ⌝ }
@@ -290,7 +290,7 @@ fn build_two(ws: &[u64], width: u32, work: &mut [u64]) -> Built
     }
 }
 
-// The end of the list of the tree at the front of the words, at the front of the work.
+// The end tree of the tree at the front of the words, at the front of the work.
 fn build(ws: &[u64], width: u32, work: &mut [u64]) -> Built
     requires { ⌜ Starts (now ws) × (length (now ws) ≤ 1024) × (width ≤ 64) × (length (encode (treeAt (now ws))) ≤ length (now work)) ⌝ }
     ensures { λ r. ⌜ IsBuilt width (now (ws .entry)) (now (work .entry)) (now (work .exit)) (r .read) (r .len) (r .count) ⌝ }

@@ -44,7 +44,7 @@ fn at_root(words: usize, local: Decision) -> Search
     }
 }
 
-// A child's site, as its parent sees it; the child's words begin at `from`.
+// A child's site, by its place and level in the parent; the child's words begin at `from`.
 fn under_parent(site: Site, from: usize) -> Site
     requires { ⌜ (site .at + from ≤ 1024) × (site .levels ≤ 1024) ⌝ }
     ensures { λ r. ⌜ r ≡ underParent from site ⌝ }

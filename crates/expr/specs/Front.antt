@@ -36,13 +36,13 @@ pub record Gives {A : Type 0} (f : Expr → A) (y : A) (t : Expr) : Type 0 where
 -- ---- the tree, by its words
 
 -- the tree that was read; the constant 0 where none was
-abbrev pub orZero : Outcome (Expr × List ℕ) → Expr
-orZero (refused r) = leaf (Constant 0)
-orZero (accepted p) = p .0
+abbrev pub readTree : Outcome (Expr × List ℕ) → Expr
+readTree (refused r) = leaf (Constant 0)
+readTree (accepted p) = p .0
 
 -- the tree that the words begin with; the constant 0 where they begin with none
 unfoldable pub treeAt : List ℕ → Expr
-treeAt ws = orZero (subtree (length ws) ws)
+treeAt ws = readTree (subtree (length ws) ws)
 
 -- the words are exactly those of the tree, whose operands are in range
 pub record Exactly (ws : List ℕ) (t : Expr) : Type 0 where

@@ -22,7 +22,7 @@ arity (none k) = 0
 arity (one k) = 1
 arity (two k) = 2
 
--- the number of children that a kind word asks for: leaves are below 2, binary kinds below 7, unary kinds below 13, and 13, Concat, is
+-- the number of children of a kind word: leaves are below 2, binary kinds below 7, unary kinds below 13, and 13, Concat, is
 -- binary again; refusal 3 above that
 unfoldable pub arityOf : ℕ → Outcome ℕ
 arityOf k =

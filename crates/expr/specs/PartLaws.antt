@@ -12,7 +12,7 @@ use Rattle.expr.specs.ExprLaws.{nodes-pos, depth-nodes, length-encode}
 use Rattle.expr.specs.Parse.{Kind, none, one, two, arity, arityOf, operandOk, operandsOk, subtree}
 use Rattle.expr.specs.ParseLaws.{subtree-encode}
 use Rattle.expr.specs.KindLaws.{number, operand, number-arity}
-use Rattle.expr.specs.Front.{Front, Starts, orZero, treeAt, Exactly, Whole, leftOf, rightOf}
+use Rattle.expr.specs.Front.{Front, Starts, readTree, treeAt, Exactly, Whole, leftOf, rightOf}
 use Rattle.expr.specs.Parts.{tail, part}
 use Rattle.expr.specs.TailLaws.{tail-drop, length-tail}
 
@@ -25,6 +25,9 @@ module _ (ws : List ℕ) (m : ℕ) (h : length ws ≤ m) where
   pub part-short : (a e : ℕ) → length (part a e ws) ≤ m
   part-short a e = omega (arith, length-take (e - a) (drop a ws), length-drop a ws)
 
+pub part-length : (ws : List ℕ) (a n : ℕ) → a + n ≤ length ws → length (part a (a + n) ws) ≡ n
+part-length ws a n h = length-take (a + n - a) (drop a ws) ∙ omega (arith, length-drop a ws)
+
 -- ---- the tree is known by its words
 
 module _ (ws : List ℕ) (t : Expr) where
@@ -32,7 +35,7 @@ module _ (ws : List ℕ) (t : Expr) where
   unfolding treeAt
   front-tree f =
       let deep : depth t ≤ length ws = omega (arith, depth-nodes t, length-encode t, ap length (f .words), length-append (encode t) (f .rest)) in
-      ap (λ (l : List ℕ). orZero (subtree (length ws) l)) (f .words) ∙ ap orZero (subtree-encode t (length ws) (f .rest) deep (f .operands))
+      ap (λ (l : List ℕ). readTree (subtree (length ws) l)) (f .words) ∙ ap readTree (subtree-encode t (length ws) (f .rest) deep (f .operands))
 
   -- the tree's own words, of those that begin with them
   pub front-part : Front ws t → (n : ℕ) → n ≡ length (encode t) → Exactly (part 0 n ws) t

@@ -1,4 +1,4 @@
-// Why a call is turned down: document 01's refusals 1 to 15. The list is closed: a crate that knows more refusals has its own enum
+// Why a call is turned down: document 01's refusals 1 to 15. The list is closed: a crate with more refusals has its own enum
 // around this one.
 ghost use mathlib.Core.Path.{_≡_};
 ghost use Rattle.expr.specs.Refusals.{reasonOf};
@@ -18,7 +18,7 @@ pub enum Refusal {
     WordsEnd,
     // 7: something stands behind the tree.
     WordsLeftOver,
-    // 8: the tree is not of one width.
+    // 8: `is_uniform_width` says no.
     NotUniform,
     // 9: the lent output cannot hold the answer.
     OutputTooSmall,
@@ -44,7 +44,7 @@ pub struct Reason {
     pub second: u32,
 }
 
-// One line for each case below.
+// So that each case below takes one line.
 fn numbered(number: u32, first: u32, second: u32) -> Reason
     ensures { λ r. ⌜ r ≡ record { number = number; first = first; second = second } ⌝ }
 {

@@ -18,7 +18,6 @@ use Rattle.expr.specs.declared.Arity.{Arity}
 use Rattle.expr.specs.declared.Arity.the-variants.{Zero, One, Two}
 use Rattle.expr.specs.Answers.{arityOutcome}
 use Rattle.expr.specs.Parts.{tail}
-use Rattle.expr.specs.TailLaws.{length-tail}
 use Rattle.expr.specs.Front.{Front, Starts, Read, Gives}
 use Rattle.expr.specs.FrontLaws.{leaf-node, unary-node, binary-node, right-front}
 use Rattle.expr_cost.specs.declared.CostInfo.{CostInfo}
@@ -115,9 +114,6 @@ module _ (lhs rhs : CostInfo) (nonlinear : Bool) where
     left-constant z = binary-is (rhs .«has_var_dep») (simp z)
 
 -- ---- the subtree at the front of the words
-
-pub part-short : (ws : List ℕ) (n m : ℕ) → length ws ≤ m → length (tail n ws) ≤ m
-part-short ws n m h = omega (arith, length-tail n ws)
 
 -- a child's cost is small, as its words are few
 pub small-cost : (ws : List ℕ) (n : ℕ) (c : CostInfo) → Read ws n (Gives computeCost c) → Starts ws → length ws ≤ 1024 → Small c

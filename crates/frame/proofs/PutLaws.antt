@@ -1,5 +1,5 @@
 -- A frame that is written. Assumes nothing.
-use mathlib.Core.Path.{_≡_, refl, sym, ap, ap₂, subst, _∙_}
+use mathlib.Core.Path.{_≡_, sym, ap, ap₂, subst, _∙_}
 use mathlib.Core.List.{List, [], _∷_, _++_, append-assoc}
 use Prim.Native.Nat.{ℕ, suc, _+_, _-_, _*_, _/_, _≤_, _<_, min}
 use native.Mathlib.Omega.{arith}
@@ -13,23 +13,22 @@ use Rattle.expr.specs.declared.refusal.Refusal.{Refusal}
 use Rattle.expr.specs.declared.Counted.{Counted}
 use Rattle.expr.specs.declared.Counted.the-variants as counted
 use Rattle.expr.specs.Refusals.{refusal, reasonOf}
-use Rattle.expr.specs.Outcome.{Outcome, refused, accepted, mapped, _andThen_}
+use Rattle.expr.specs.Outcome.{Outcome, refused, accepted, mapped}
 use Rattle.expr.specs.OutcomeLaws.{then-accepted, refused-then}
 use Rattle.expr.specs.Expr.{Expr, nodes}
 use Rattle.expr.specs.ExprLaws.{length-encode}
 use Rattle.expr.specs.Answers.{countedOutcome}
 use Rattle.expr.specs.Parts.{tail}
 use Rattle.expr.specs.TailLaws.{length-tail}
-use Rattle.expr.specs.Lent.{over, Laid}
+use Rattle.expr.specs.Lent.{over, lentAfter, Laid}
 use Rattle.expr.specs.LentLaws.{laid-length, laid-on}
 use Rattle.hex.specs.Hex.{digits}
 use Rattle.hex.specs.HexLaws.{length-digits}
 use Rattle.hex.specs.Nodes.{nodesText}
 use Rattle.hex.specs.NodesLaws.{length-nodes}
 use Rattle.frame.specs.Frame.{frame, withBytes, writeFrame}
-use Rattle.frame.specs.Answers.{left}
 use Rattle.width.specs.Checked.{checked}
-use Rattle.width.specs.CheckedLaws.{checked-then, Tree, checked-tree}
+use Rattle.width.specs.CheckedLaws.{Tree, checked-tree}
 
 -- ---- `put_frame`
 
@@ -71,65 +70,62 @@ module _ (ws : List ℕ) (w : ℕ) (before : List ℕ) (h : 3 + 18 * (length ws 
 
 -- ---- `write_frame`
 
-module _ (w : ℕ) (ws : List ℕ) (room : ℕ) where
-  write-checked : writeFrame ws w room ≡ (checked w ws andThen withBytes room)
-  unfolding writeFrame
-  write-checked = checked-then w ws (λ o. o andThen withBytes room) refl
+module _ (w : ℕ) (ws : List ℕ) (room : ℕ) (x : Counted) (h : countedOutcome x ≡ mapped nodes (checked w ws)) where
+  module _ (r : Refusal) (e : x ≡ counted.Refused r) where
+    not-written : writeFrame ws w room ≡ refused (reasonOf r)
+    unfolding writeFrame
+    not-written = sym (refused-then nodes (withBytes room) (checked w ws) (ap countedOutcome (sym e) ∙ h))
 
-  module _ (x : Counted) (h : countedOutcome x ≡ mapped nodes (checked w ws)) where
-    module _ (r : Refusal) (e : x ≡ counted.Refused r) where
-      not-written : writeFrame ws w room ≡ refused (reasonOf r)
-      not-written = write-checked ∙ sym (refused-then nodes (withBytes room) (checked w ws) (ap countedOutcome (sym e) ∙ h))
+    pub check-answer : refused (reasonOf r) ≡ mapped (λ t. 3 + 18 * nodes t) (writeFrame ws w room)
+    check-answer = sym (ap (mapped (λ t. 3 + 18 * nodes t)) not-written)
 
-      pub check-answer : refused (reasonOf r) ≡ mapped (λ t. 3 + 18 * nodes t) (writeFrame ws w room)
-      check-answer = sym (ap (mapped (λ t. 3 + 18 * nodes t)) not-written)
+    pub check-memory : (before : List ℕ) → before ≡ lentAfter (frame w) (writeFrame ws w room) before
+    check-memory before = sym (ap (λ (o : Outcome Expr). lentAfter (frame w) o before) not-written)
 
-      pub check-memory : (before : List ℕ) → before ≡ left (frame w) (writeFrame ws w room) before
-      check-memory before = sym (ap (λ (o : Outcome Expr). left (frame w) o before) not-written)
+  module _ (n : ℕ) (e : x ≡ counted.Count n) where
+    found : Tree w ws n
+    found = checked-tree w ws x h n e
 
-    module _ (n : ℕ) (e : x ≡ counted.Count n) where
-      found : Tree w ws n
-      found = checked-tree w ws x h n e
+    half : length ws / 2 ≡ n
+    half = omega (arith, ap length (found .words), length-encode (found .tree), found .count)
 
-      half : length ws / 2 ≡ n
-      half = omega (arith, ap length (found .words), length-encode (found .tree), found .count)
+    roomed : writeFrame ws w room ≡ withBytes room (found .tree)
+    unfolding writeFrame
+    roomed = then-accepted (found .is) (withBytes room)
 
-      roomed : writeFrame ws w room ≡ withBytes room (found .tree)
-      roomed = write-checked ∙ then-accepted (found .is) (withBytes room)
+    pub nodes-fit : Fits w64 (18 * n)
+    nodes-fit = omega (arith, found .few)
 
-      pub nodes-fit : Fits w64 (18 * n)
-      nodes-fit = omega (arith, found .few)
+    pub bytes-fit : Fits w64 (3 + 18 * n)
+    bytes-fit = omega (arith, found .few)
 
-      pub bytes-fit : Fits w64 (3 + 18 * n)
-      bytes-fit = omega (arith, found .few)
+    module _ (l : room < 3 + 18 * n) where
+      no-room : writeFrame ws w room ≡ refused (refusal 9)
+      unfolding withBytes
+      no-room = roomed ∙ rw (lt-ltb room (3 + 18 * nodes (found .tree)) (omega (arith, found .count)))
 
-      module _ (l : room < 3 + 18 * n) where
-        no-room : writeFrame ws w room ≡ refused (refusal 9)
-        unfolding withBytes
-        no-room = roomed ∙ rw (lt-ltb room (3 + 18 * nodes (found .tree)) (omega (arith, found .count)))
+      pub room-answer : refused (refusal 9) ≡ mapped (λ t. 3 + 18 * nodes t) (writeFrame ws w room)
+      room-answer = sym (ap (mapped (λ t. 3 + 18 * nodes t)) no-room)
 
-        pub room-answer : refused (refusal 9) ≡ mapped (λ t. 3 + 18 * nodes t) (writeFrame ws w room)
-        room-answer = sym (ap (mapped (λ t. 3 + 18 * nodes t)) no-room)
+      pub room-memory : (before : List ℕ) → before ≡ lentAfter (frame w) (writeFrame ws w room) before
+      room-memory before = sym (ap (λ (o : Outcome Expr). lentAfter (frame w) o before) no-room)
 
-        pub room-memory : (before : List ℕ) → before ≡ left (frame w) (writeFrame ws w room) before
-        room-memory before = sym (ap (λ (o : Outcome Expr). left (frame w) o before) no-room)
+    module _ (l : 3 + 18 * n ≤ room) where
+      with-room : writeFrame ws w room ≡ accepted (found .tree)
+      unfolding withBytes
+      with-room = roomed ∙ rw (le-ltb room (3 + 18 * nodes (found .tree)) (omega (arith, found .count)))
 
-      module _ (l : 3 + 18 * n ≤ room) where
-        with-room : writeFrame ws w room ≡ accepted (found .tree)
-        unfolding withBytes
-        with-room = roomed ∙ rw (le-ltb room (3 + 18 * nodes (found .tree)) (omega (arith, found .count)))
+      pub frame-fits : 3 + 18 * (length ws / 2) ≤ room
+      frame-fits = omega (arith, half)
 
-        pub frame-fits : 3 + 18 * (length ws / 2) ≤ room
-        frame-fits = omega (arith, half)
+      pub written-answer : accepted (3 + 18 * n) ≡ mapped (λ t. 3 + 18 * nodes t) (writeFrame ws w room)
+      written-answer = sym (ap (mapped (λ t. 3 + 18 * nodes t)) with-room ∙ ap (λ (i : ℕ). accepted (3 + 18 * i)) (found .count))
 
-        pub written-answer : accepted (3 + 18 * n) ≡ mapped (λ t. 3 + 18 * nodes t) (writeFrame ws w room)
-        written-answer = sym (ap (mapped (λ t. 3 + 18 * nodes t)) with-room ∙ ap (λ (i : ℕ). accepted (3 + 18 * i)) (found .count))
-
-        pub written-memory : (before after : List ℕ) → Laid before after (digits 2 w ++ (nodesText (length ws / 2) ws ++ (10 ∷ []))) → after ≡ left (frame w) (writeFrame ws w room) before
-        unfolding frame
-        written-memory before after m =
-            let same : digits 2 w ++ (nodesText (length ws / 2) ws ++ (10 ∷ [])) ≡ frame w (found .tree) =
-            ap (λ (xs : List ℕ). digits 2 w ++ (xs ++ (10 ∷ []))) (ap₂ nodesText (half ∙ sym (found .count)) (found .words)) in
-            m .is ∙ ap (λ (xs : List ℕ). over xs before) same ∙ sym (ap (λ (o : Outcome Expr). left (frame w) o before) with-room)
+      pub written-memory : (before after : List ℕ) → Laid before after (digits 2 w ++ (nodesText (length ws / 2) ws ++ (10 ∷ []))) → after ≡ lentAfter (frame w) (writeFrame ws w room) before
+      unfolding frame
+      written-memory before after m =
+          let same : digits 2 w ++ (nodesText (length ws / 2) ws ++ (10 ∷ [])) ≡ frame w (found .tree) =
+          ap (λ (xs : List ℕ). digits 2 w ++ (xs ++ (10 ∷ []))) (ap₂ nodesText (half ∙ sym (found .count)) (found .words)) in
+          m .is ∙ ap (λ (xs : List ℕ). over xs before) same ∙ sym (ap (λ (o : Outcome Expr). lentAfter (frame w) o before) with-room)
 
 pub ruleset writing = (check-answer, check-memory, nodes-fit, bytes-fit, room-answer, room-memory, frame-fits, written-answer, written-memory)

@@ -24,7 +24,7 @@ use Rattle.expr.specs.ExprLaws.{length-encode}
 use Rattle.expr.specs.Answers.{countedOutcome}
 use Rattle.expr.specs.Parts.{tail, part}
 use Rattle.expr.specs.TailLaws.{tail-drop, length-tail}
-use Rattle.expr.specs.Lent.{over}
+use Rattle.expr.specs.Lent.{over, lentAfter}
 use Rattle.hex.specs.declared.Parsed.{Parsed}
 use Rattle.hex.specs.Hex.{allDigits, numberOf}
 use Rattle.hex.specs.HexLaws.{all-append, number-below, number-whole}
@@ -32,10 +32,10 @@ use Rattle.hex.specs.Nodes.{wordsOf}
 use Rattle.hex.specs.NodesLaws.{length-words}
 use Rattle.frame.specs.Frame.{nodesIn, lineWords, unended, framed, readFrame}
 use Rattle.frame.specs.FrameLaws.{bytes-of-nodes, line-read, unended-last}
-use Rattle.frame.specs.Answers.{readOutcome, left}
+use Rattle.frame.specs.Answers.{readOutcome}
 use Rattle.frame.specs.Contracts.{readLine, Ends, Decodes, Reads}
 use Rattle.width.specs.Checked.{checked, withWords}
-use Rattle.width.specs.CheckedLaws.{checked-then, Tree, checked-tree}
+use Rattle.width.specs.CheckedLaws.{Tree, checked-tree}
 use Rattle.frame.specs.declared.Line.{Line}
 use Rattle.frame.specs.declared.FrameRead.{FrameRead}
 use Rattle.frame.specs.declared.FrameRead.the-variants as read
@@ -157,23 +157,20 @@ atWidth w t = accepted (w, t)
 reads-refused : (o : Outcome (ℕ × Expr)) (r : Refusal) (before : List ℕ) → o ≡ refused (reasonOf r) → Reads o (read.Refused r) before before
 reads-refused o r before e = subst (λ (p : Outcome (ℕ × Expr)). Reads p (read.Refused r) before before) (sym e) (record { answer = refl; memory = refl })
 
-framed-checked : (room w : ℕ) (ws : List ℕ) → framed room (w, ws) ≡ (checked w ws andThen withWords room andThen atWidth w)
-unfolding framed
-framed-checked room w ws = checked-then w ws (λ o. o andThen withWords room andThen atWidth w) refl
-
 module _ (w : ℕ) (ws : List ℕ) (x : Counted) (h : countedOutcome x ≡ mapped nodes (checked w ws)) (before : List ℕ) where
   pub check-refused : (r : Refusal) → x ≡ counted.Refused r → Reads (framed (length before) (w, ws)) (read.Refused r) before before
+  unfolding framed
   check-refused r e =
       reads-refused (framed (length before) (w, ws)) r before
-      (framed-checked (length before) w ws
-      ∙ then-refused (sym (refused-then nodes (withWords (length before)) (checked w ws) (ap countedOutcome (sym e) ∙ h))) (atWidth w))
+      (then-refused (sym (refused-then nodes (withWords (length before)) (checked w ws) (ap countedOutcome (sym e) ∙ h))) (atWidth w))
 
   module _ (n : ℕ) (e : x ≡ counted.Count n) where
     found : Tree w ws n
     found = checked-tree w ws x h n e
 
     roomed : framed (length before) (w, ws) ≡ (withWords (length before) (found .tree) andThen atWidth w)
-    roomed = framed-checked (length before) w ws ∙ ap (λ (o : Outcome Expr). o andThen withWords (length before) andThen atWidth w) (found .is)
+    unfolding framed
+    roomed = ap (λ (o : Outcome Expr). o andThen withWords (length before) andThen atWidth w) (found .is)
 
     pub words-fit : Fits w64 (2 * n)
     words-fit = omega (arith, found .few)
@@ -220,5 +217,5 @@ module _ (line : List ℕ) (n : ℕ) (e : Ends line n) (room : ℕ) (r : FrameRe
   pub read-answer : readOutcome r ≡ mapped (λ p. (p .0, nodes (p .1))) (readFrame line room)
   read-answer = h .answer ∙ ap (mapped (λ p. (p .0, nodes (p .1)))) whole
 
-  pub read-memory : after ≡ left (λ p. encode (p .1)) (readFrame line room) before
-  read-memory = h .memory ∙ ap (λ (o : Outcome (ℕ × Expr)). left (λ p. encode (p .1)) o before) whole
+  pub read-memory : after ≡ lentAfter (λ p. encode (p .1)) (readFrame line room) before
+  read-memory = h .memory ∙ ap (λ (o : Outcome (ℕ × Expr)). lentAfter (λ p. encode (p .1)) o before) whole

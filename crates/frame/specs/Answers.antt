@@ -1,9 +1,7 @@
--- What the answers stand for, and what the calls leave in the lent places. Definitions only.
-use mathlib.Core.List.{List}
+-- What the answers stand for. Definitions only.
 use Prim.Native.Nat.{ℕ}
 use Rattle.expr.specs.Refusals.{reasonOf}
 use Rattle.expr.specs.Outcome.{Outcome, refused, accepted}
-use Rattle.expr.specs.Lent.{over}
 use Rattle.frame.specs.declared.FrameRead.{FrameRead}
 use Rattle.frame.specs.declared.FrameRead.the-variants as read
 use Rattle.frame.specs.declared.FrameWritten.{FrameWritten}
@@ -18,8 +16,3 @@ readOutcome (read.Refused r) = refused (reasonOf r)
 abbrev pub writtenOutcome : FrameWritten → Outcome ℕ
 writtenOutcome (write.Written bytes) = accepted bytes
 writtenOutcome (write.Refused r) = refused (reasonOf r)
-
--- lent places after a call: f of the answer at their front, and unchanged after a refusal
-abbrev pub left : {A : Type 0} → (A → List ℕ) → Outcome A → List ℕ → List ℕ
-left f (refused r) lent = lent
-left f (accepted a) lent = over (f a) lent

@@ -9,8 +9,9 @@ use Rattle.expr.specs.Refusals.{refusal}
 use Rattle.expr.specs.Outcome.{Outcome, refused, accepted, mapped, _andThen_}
 use Rattle.expr.specs.Expr.{Expr, encode, nodes}
 use Rattle.expr.specs.Parts.{part}
+use Rattle.expr.specs.Lent.{lentAfter}
 use Rattle.frame.specs.Frame.{lineWords, unended, framed}
-use Rattle.frame.specs.Answers.{readOutcome, left}
+use Rattle.frame.specs.Answers.{readOutcome}
 use Rattle.frame.specs.declared.Line.{Line}
 use Rattle.frame.specs.declared.FrameRead.{FrameRead}
 
@@ -35,4 +36,4 @@ pub record Decodes (bs words : List ℕ) (l : Line) : Type 0 where
 -- what is answered and left in the lent words where reading comes to this outcome
 pub record Reads (o : Outcome (ℕ × Expr)) (r : FrameRead) (before after : List ℕ) : Type 0 where
   pub answer : readOutcome r ≡ mapped (λ p. (p .0, nodes (p .1))) o
-  pub memory : after ≡ left (λ p. encode (p .1)) o before
+  pub memory : after ≡ lentAfter (λ p. encode (p .1)) o before

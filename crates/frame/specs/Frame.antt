@@ -8,9 +8,7 @@ use Rattle.arith.specs.Choice.{if_then_else_}
 use Rattle.expr.specs.Refusals.{refusal}
 use Rattle.expr.specs.Outcome.{Outcome, refused, accepted, _andThen_}
 use Rattle.expr.specs.Expr.{Expr, encode, nodes}
-use Rattle.expr.specs.Parse.{parse}
-use Rattle.width.specs.Width.{supported}
-use Rattle.width.specs.Checked.{withWords}
+use Rattle.width.specs.Checked.{checked, withWords}
 use Rattle.hex.specs.Hex.{digits, allDigits, numberOf}
 use Rattle.hex.specs.Nodes.{nodesText, wordsOf}
 
@@ -26,7 +24,7 @@ withBytes room t = if ltb room (3 + 18 * nodes t) then refused (refusal 9) else 
 
 -- `write_frame`: the tree whose frame is written, or the refusal: 1, then 2 to 7, then 9
 unfoldable pub writeFrame : List ℕ → ℕ → ℕ → Outcome Expr
-writeFrame ws w room = if supported w then parse ws andThen withBytes room else refused (refusal 1)
+writeFrame ws w room = checked w ws andThen withBytes room
 
 -- ---- reading
 
@@ -49,7 +47,7 @@ unended (b ∷ c ∷ bs) = b ∷ unended (c ∷ bs)
 
 -- the tree that the words are at that width: 1, then 2 to 7, of which 2 cannot occur, then 9
 unfoldable pub framed : ℕ → ℕ × List ℕ → Outcome (ℕ × Expr)
-framed room (w, ws) = if supported w then parse ws andThen withWords room andThen (λ t. accepted (w, t)) else refused (refusal 1)
+framed room (w, ws) = checked w ws andThen withWords room andThen (λ t. accepted (w, t))
 
 -- `read_frame`: the width and the tree that a line is the frame of, or the refusal: 14 first
 unfoldable pub readFrame : List ℕ → ℕ → Outcome (ℕ × Expr)

@@ -23,12 +23,13 @@ use Rattle.expr.specs.Parse.{Kind, none, one, two, kindAt, kinds, parse, Valid}
 use Rattle.expr.specs.ParseLaws.{parse-sound, parse-encode}
 use Rattle.width.specs.Width.{supported}
 use Rattle.width.specs.WidthLaws.{supported-is}
+use Rattle.width.specs.Checked.{checked, withWords}
+use Rattle.width.specs.CheckedLaws.{checked-is}
 use Rattle.hex.specs.Hex.{digits, allDigits, numberOf}
 use Rattle.hex.specs.HexLaws.{all-append, all-take, all-drop, all-digits, length-digits, number-digits, digits-number}
 use Rattle.hex.specs.Nodes.{nodesText, wordsOf}
 use Rattle.hex.specs.NodesLaws.{NodeWords, next, length-nodes, length-words, all-nodes, words-nodes, nodes-words}
 use Rattle.hex.specs.NodesLaws as hex
-use Rattle.width.specs.Checked.{withWords}
 use Rattle.frame.specs.Frame.{frame, nodesIn, lineWords, unended, framed, readFrame}
 
 -- ---- how long frames are
@@ -146,13 +147,13 @@ framed-is : (room w : ℕ) (ws : List ℕ) (v : ℕ) (t : Expr) → framed room 
     → (w ≡ v) × (supported w ≡ true) × (parse ws ≡ accepted t) × (2 * nodes t ≤ room)
 unfolding framed withWords
 framed-is room w ws v t e =
-    let wide = if-came (parse ws andThen withWords room andThen (λ u. accepted (w, u))) (refusal 1) (supported w) e in
-    let last = then-came (λ u. accepted (w, u)) (parse ws andThen withWords room) (wide .1) in
-    let read = then-came (withWords room) (parse ws) (last .was) in
+    let last = then-came (λ u. accepted (w, u)) (checked w ws andThen withWords room) e in
+    let read = then-came (withWords room) (checked w ws) (last .was) in
+    let passed = checked-is w ws (read .answer) (read .was) in
     let room-is = else-came (accepted (read .answer)) (refusal 9) (ltb room (2 * nodes (read .answer))) (read .made) in
     let same = same-answer (last .made) in
     let tree : read .answer ≡ t = same-answer (room-is .1) ∙ ap (λ q. q .1) same in
-    (ap (λ q. q .0) same, wide .0, read .was ∙ ap accepted tree, subst (λ (u : Expr). 2 * nodes u ≤ room) tree (ltb-false room (2 * nodes (read .answer)) (room-is .0)))
+    (ap (λ q. q .0) same, passed .0, passed .1 ∙ ap accepted tree, subst (λ (u : Expr). 2 * nodes u ≤ room) tree (ltb-false room (2 * nodes (read .answer)) (room-is .0)))
 
 pub frame-is : (line : List ℕ) (room w : ℕ) (t : Expr) → readFrame line room ≡ accepted (w, t) → IsFrame line room w t
 unfolding readFrame
@@ -219,7 +220,7 @@ tree-words (binary k l r) h =
 -- are accepted and have 64 bits, and each room that holds its words.
 pub read-back : (w : ℕ) (ws : List ℕ) (t : Expr) (room : ℕ) → supported w ≡ true → parse ws ≡ accepted t → ((i : ℕ) → i < length ws → getD ws i 0 < 2 ^ 64) → 2 * nodes t ≤ room
     → readFrame (frame w t) room ≡ accepted (w, t)
-unfolding frame readFrame framed withWords
+unfolding frame readFrame framed checked withWords
 read-back w ws t room ok e each fits =
     let a = parse-sound ws t e in
     let valid = a .valid in

@@ -5,12 +5,11 @@ ghost use Prim.Native.Nat.{_+_, _*_, _/_, _≤_};
 ghost use lib.ListN.{length};
 ghost use Rattle.expr.specs.Outcome.{mapped};
 ghost use Rattle.expr.specs.Expr.{encode, nodes};
-ghost use Rattle.expr.specs.Answers.{countedOutcome};
-ghost use Rattle.expr.specs.Lent.{Laid};
+ghost use Rattle.expr.specs.Lent.{lentAfter, Laid};
 ghost use Rattle.hex.specs.Hex.{digits};
 ghost use Rattle.hex.specs.Nodes.{nodesText};
 ghost use Rattle.frame.specs.Frame.{frame, nodesIn, framed, writeFrame, readFrame};
-ghost use Rattle.frame.specs.Answers.{readOutcome, writtenOutcome, left};
+ghost use Rattle.frame.specs.Answers.{readOutcome, writtenOutcome};
 ghost use Rattle.frame.specs.Contracts.{readLine, Ends, Decodes, Reads};
 use expr::Counted;
 use expr::refusal::Refusal;
@@ -118,7 +117,7 @@ fn word_buffer() -> [u64; 1024]
 // Reads a line, with or without its one final 0a: puts the words of its tree at the front of `out`.
 pub fn read_frame(line: &[u8], out: &mut [u64]) -> FrameRead
     ensures { λ r. ⌜ readOutcome r ≡ mapped (λ p. (p .0, nodes (p .1))) (readFrame (now (line .entry)) (length (now (out .entry)))) ⌝ }
-    ensures { λ r. ⌜ now (out .exit) ≡ left (λ p. encode (p .1)) (readFrame (now (line .entry)) (length (now (out .entry)))) (now (out .entry)) ⌝ }
+    ensures { λ r. ⌜ now (out .exit) ≡ lentAfter (λ p. encode (p .1)) (readFrame (now (line .entry)) (length (now (out .entry)))) (now (out .entry)) ⌝ }
 {
     let end = line_end(line);
     let mut words = word_buffer();
@@ -141,7 +140,7 @@ fn put_frame(words: &[u64], width: u32, out: &mut [u8])
 // Puts the frame of a tree, its 0a included, at the front of `out`.
 pub fn write_frame(words: &[u64], width: u32, out: &mut [u8]) -> FrameWritten
     ensures { λ r. ⌜ writtenOutcome r ≡ mapped (λ t. 3 + 18 * nodes t) (writeFrame (now (words .entry)) width (length (now (out .entry)))) ⌝ }
-    ensures { λ r. ⌜ now (out .exit) ≡ left (frame width) (writeFrame (now (words .entry)) width (length (now (out .entry)))) (now (out .entry)) ⌝ }
+    ensures { λ r. ⌜ now (out .exit) ≡ lentAfter (frame width) (writeFrame (now (words .entry)) width (length (now (out .entry)))) (now (out .entry)) ⌝ }
 {
     match width::check_tree_at(words, width) {
         Counted::Refused(r) => FrameWritten::Refused(r),

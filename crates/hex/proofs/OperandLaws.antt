@@ -15,7 +15,7 @@ use Rattle.expr.specs.Lent.{over, Laid}
 use Rattle.arith.specs.ChoiceLaws.{both-true}
 use Rattle.hex.specs.Hex.{glyphOf, digitOf, digits, allDigits, numberFrom, numberOf}
 use Rattle.hex.specs.Contracts.{allZeros}
-use Rattle.hex.specs.HexLaws.{all-append, number-below, number-whole, length-digits}
+use Rattle.hex.specs.HexLaws.{and-assoc, all-append, number-below, number-whole, length-digits}
 use Rattle.hex.specs.Nodes.{nodesText}
 use Rattle.hex.specs.declared.Parsed.{Parsed}
 
@@ -33,10 +33,6 @@ zeros-last [] b = and-true (eqb b 48)
     and-true true = refl
     and-true false = refl
 zeros-last (c ∷ bs) b = ap (λ (t : Bool). eqb c 48 && t) (zeros-last bs b) ∙ and-assoc (eqb c 48) (allZeros bs) (eqb b 48)
-  where
-    and-assoc : (p q r : Bool) → (p && (q && r)) ≡ ((p && q) && r)
-    and-assoc true q r = refl
-    and-assoc false q r = refl
 
 -- after i turns it is known of the first i bytes
 pub record Testing (s : List ℕ) (zeros : Bool) (i : ℕ) : Type 0 where

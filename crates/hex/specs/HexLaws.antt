@@ -58,14 +58,14 @@ glyph-digit b =
 
 -- ---- all bytes are digits
 
+pub and-assoc : (a b c : Bool) → (a && (b && c)) ≡ ((a && b) && c)
+and-assoc true b c = refl
+and-assoc false b c = refl
+
 pub all-append : (bs cs : List ℕ) → allDigits (bs ++ cs) ≡ (allDigits bs && allDigits cs)
 unfolding allDigits
 all-append [] cs = refl
 all-append (b ∷ bs) cs = ap (λ (t : Bool). ltb (digitOf b) 16 && t) (all-append bs cs) ∙ and-assoc (ltb (digitOf b) 16) (allDigits bs) (allDigits cs)
-  where
-    and-assoc : (a b c : Bool) → (a && (b && c)) ≡ ((a && b) && c)
-    and-assoc true b c = refl
-    and-assoc false b c = refl
 
 module _ (bs : List ℕ) (n : ℕ) (e : allDigits bs ≡ true) where
   parts-all : (allDigits (take n bs) ≡ true) × (allDigits (drop n bs) ≡ true)

@@ -8,7 +8,7 @@ use Rattle.arith.specs.Choice.{if_then_else_}
 
 -- ---- lines
 
--- a last line may lack its 0a; a final 0a opens no further line
+-- a line end is byte 0a; the last line may lack it, and a final one opens no further line
 unfoldable pub lastLine : List ℕ → List (List ℕ)
 lastLine [] = []
 lastLine (b ∷ bs) = (b ∷ bs) ∷ []

@@ -1,5 +1,7 @@
 // The report of standard input, on standard output. What is printed comes from `report_lines`. What is read and written cannot be said in a
 // contract; that the state is the one after the bytes read so far can.
+use report_lines::LINE_BYTES;
+use report_lines::MOST_LINES;
 use report_lines::State;
 use report_lines::Totals;
 ghost use Prim.Native.Nat.{_-_, _≤_};
@@ -27,18 +29,20 @@ struct Turn {
 }
 
 // A caller's proof has the length of such an array, and not its elements.
-fn line_buffer() -> [u8; 9219]
+fn line_buffer() -> [u8; LINE_BYTES]
     ensures { λ r. ⌜ 9219 ≡ length r ⌝ }
 {
-    [0; 9219]
+    [0; LINE_BYTES]
 }
 
+// The most words of a tree.
 fn word_buffer() -> [u64; 1024]
     ensures { λ r. ⌜ 1024 ≡ length r ⌝ }
 {
     [0; 1024]
 }
 
+// Work for 2,048 nodes.
 fn work_buffer() -> [u64; 4096]
     ensures { λ r. ⌜ 4096 ≡ length r ⌝ }
 {
@@ -58,10 +62,10 @@ fn read_chunk(lines: u64, input: &mut [u8]) -> usize
     requires { ⌜ length (now input) ≡ 65536 ⌝ }
     ensures { λ r. ⌜ r ≤ 65535 - lines ⌝ }
 {
-    if lines >= 65535 {
+    if lines >= MOST_LINES {
         return 0;
     }
-    let left = (65535 - lines) as usize;
+    let left = (MOST_LINES - lines) as usize;
     let got = libc::read(0, &mut input[0..left]);
     io::count(got, &input[0..left])
 }

@@ -22,34 +22,10 @@ use Rattle.report_lines.specs.Report.{outcomeOf, textOf, plus, totalsOf,
 use Rattle.report_lines.specs.Steps.{restOf, soundTotals, ready, Lent, Advances, FeedsIf, Feeds, FinishesIf, Finishes}
 use Rattle.report_lines.specs.ReportLaws.{rest-none, rest-full}
 use Rattle.report_lines.specs.StepsLaws.{IsReady, ready-open, no-step, step-on}
-use Rattle.report_lines.specs.Contracts.{Printed, Turnable, Turned, FeedsOn, FedOn, Fed, lastText, Finished}
+use Rattle.report_lines.specs.Contracts.{Printed, Turned, FeedsOn, FedOn, Fed, lastText, Finished}
 use Rattle.report_lines.proofs.ReadyLaws.{sound-open, SoundPlaces, places-open, places-shut}
 use Rattle.report_lines.proofs.TextLaws.{closing-most}
 use Rattle.report_lines.proofs.StepLaws.{rest-line, small, sound-next}
-
--- ---- `feed_line`
-
-module _ (at : Step) (chunk line : List ℕ) (words work : ℕ) (out : List ℕ) (f : FeedsOn at chunk line words work out) where
-  pub on-turnable : Turnable (at .state) line (tail (at .used) chunk) words work (length (tail (at .put) out))
-  on-turnable = f .turnable
-
-  pub on-used : at .used ≤ length chunk
-  on-used = f .used-most
-
-  pub on-put : at .put ≤ length out
-  on-put = f .put-most
-
-  module _ (r : Step) (line' rest : List ℕ) (g : Turned (at .state) line (tail (at .used) chunk) (tail (at .put) out) r line' rest) where
-    pub on-used-fits : length chunk < 2 ^ 63 → at .used + r .used < 2 ^ 64
-    on-used-fits z = omega (arith, g .advances .used-most, length-tail (at .used) chunk, f .used-most)
-
-    pub on-put-fits : length out < 2 ^ 63 → at .put + r .put < 2 ^ 64
-    on-put-fits z = omega (arith, g .put-most, f .put-most)
-
-    pub fed-on : (q : Step) → q ≡ record { used = at .used + r .used; put = at .put + r .put; state = r .state } → FedOn at chunk line out q line' (putMid (at .put) (length out - at .put) out rest)
-    fed-on q e = record { turn = r; rest = rest; turned = g; out-is = refl; is = e }
-
-pub ruleset feeding-on = (on-turnable, on-used, on-put, on-used-fits, on-put-fits, fed-on)
 
 -- after some turns: what they have read and printed, and nothing has changed its length
 pub record Feeding (s : State) (line chunk words work before : List ℕ) (t : State) (line' words' work' after : List ℕ) (used put : ℕ) : Type 0 where

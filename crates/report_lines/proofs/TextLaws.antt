@@ -172,14 +172,11 @@ module _ (before after : ℕ) where
   unfolding percentageOf
   nothing-before e = rw e
 
-  pub not-nothing : (before ≡ 0 → ⊥) → 0 < before
-  not-nothing f = omega (arith, f)
-
   pub some-before : (before ≡ 0 → ⊥) → (q : ℕ) → q ≡ 100 * after / before → q ≡ percentageOf before after
   unfolding percentageOf
   some-before f q e = e ∙ simp (ne-eqb before 0 f)
 
-pub ruleset small = (more-follow, none-follows, nothing-before, not-nothing, some-before)
+pub ruleset small = (more-follow, none-follows, nothing-before, some-before)
 
 -- ---- the closing line
 

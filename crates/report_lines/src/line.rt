@@ -17,7 +17,6 @@ use crate::text;
 use atom_simplifier::chain;
 use atom_simplifier::chain::ChainAnswer;
 use expr::kind;
-use expr::refusal::Refusal;
 
 // How many bytes were put into the output, and the sums with the line.
 pub(crate) struct Line {

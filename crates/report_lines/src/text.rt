@@ -1,7 +1,7 @@
 // Numbers as fields of a line.
 ghost use mathlib.Core.Path.{_≡_};
 ghost use mathlib.Core.Bool.{true};
-ghost use Prim.Native.Nat.{_*_, _/_, _≤_, _<_};
+ghost use Prim.Native.Nat.{_*_, _≤_};
 ghost use lib.Dec.{ltb};
 ghost use lib.ListN.{length};
 ghost use Rattle.arith.specs.Choice.{if_then_else_};
@@ -47,15 +47,7 @@ pub(crate) fn put_fields(numbers: &[u64], out: &mut [u8]) -> usize
     at
 }
 
-// A quotient, cut down to a whole number.
-fn cut_down(parts: u64, whole: u64) -> u64
-    requires { ⌜ (0 < whole) × (whole ≤ 33553920) × (parts ≤ 3355392000) ⌝ }
-    ensures { λ r. ⌜ r ≡ parts / whole ⌝ }
-{
-    parts / whole
-}
-
-// The percentage of nodes left.
+// The percentage of nodes left, cut down to a whole number.
 fn percentage(before: u64, after: u64) -> u64
     requires { ⌜ (before ≤ 33553920) × (after ≤ 33553920) ⌝ }
     ensures { λ r. ⌜ r ≡ percentageOf before after ⌝ }
@@ -63,7 +55,8 @@ fn percentage(before: u64, after: u64) -> u64
     if before == 0 {
         return 0;
     }
-    cut_down(100 * after, before)
+    let parts = 100 * after;
+    parts / before
 }
 
 // The closing line.

@@ -52,14 +52,14 @@ isNotOf (leaf j) inner = false
 isNotOf (unary k t) inner = isNotKind k && exprEq t inner
 isNotOf (binary j l r) inner = false
 
--- of two operands the one beside Not of a; the left one is asked first whether it is that Not
+-- of two operands the one beside Not of a; the left one is tested first
 unfoldable pub besideNotOf : Expr → Expr → Expr → Option Expr
 besideNotOf a l r =
     if isNotOf l a then some r else
     if isNotOf r a then some l else
     none
 
--- `match_binary_add_with_neg`: X and Y of `Neg Y + X` or `X + Neg Y`; the left operand is asked first whether it is that Neg
+-- `match_binary_add_with_neg`: X and Y of `Neg Y + X` or `X + Neg Y`; the left operand is tested first
 unfoldable pub matchBinaryAddWithNeg : Expr → Option (Expr × Expr)
 matchBinaryAddWithNeg node =
     operandsOf Add node andThen λ (l, r). map (λ y. (r, y)) (operandOfNeg l) orElse map (λ y. (l, y)) (operandOfNeg r)
@@ -82,7 +82,7 @@ matchXorAndAbsorb node = operandsOf Xor node andThen λ (c0, c1). xorAbsorbOne c
 unfoldable pub sameUnorderedPair : Expr → Expr → Expr → Expr → Bool
 sameUnorderedPair a b x y = (exprEq a x && exprEq b y) || (exprEq a y && exprEq b x)
 
--- of an Or and an And; the second of them may be the one under Neg or the other
+-- of an Or and an And, either of which may be the one under Neg
 unfoldable pub xorOfOrAnd : Expr → Expr → Option Expr
 xorOfOrAnd orSide andSide =
     operandsOf Or orSide andThen λ (a, b). operandsOf And andSide andThen λ (x, y). onlyIf (sameUnorderedPair a b x y) (binary Xor a b)
@@ -155,7 +155,7 @@ isConstantNode (leaf (Variable i)) = false
 isConstantNode (unary k t) = false
 isConstantNode (binary k l r) = false
 
--- the operands of the Or in a product with a factor of that kind; the left factor is asked first
+-- the operands of the Or in a product with a factor that passes the test; the left factor is tested first
 unfoldable pub orInProduct : (Expr → Bool) → Expr → Option (Expr × Expr)
 orInProduct factor t =
     operandsOf Mul t andThen λ (l, r).
@@ -240,7 +240,8 @@ isAdd (binary j l r) = sameKind j Add
 
 -- ---- `try_match_all`
 
--- a candidate, in document 01's terms what a matcher offers for a node: its tag and its tree
+-- a candidate, in document 01's terms what a matcher offers for a node: its tree, and its tag, the number of the matcher: 1 absorb, 2 or-minus-and,
+-- 3 or-minus-not, 4 plus-one, 5 flat or-not, 6 lax And, 7 lax Xor
 pub record Candidate : Type 0 where
   pub tag : ℕ
   pub tree : Expr

@@ -17,7 +17,7 @@ constant c = leaf (Constant c)
 abbrev pub not : Expr → Expr
 not t = unary Not t
 
--- ---- what the fold asks of its operands
+-- ---- the fold's tests of its operands
 
 -- the kind is Not
 abbrev pub isNotKind : Unary → Bool
@@ -69,7 +69,7 @@ module _ (w : ℕ) where
 
 -- ---- `try_fold_binary`
 
--- the kinds that are folded; the local rewrite asks for no other
+-- the kinds that are folded; the local rewrite folds no other
 pub data Bitwise : Type 0 where
   and or xor : Bitwise
 
@@ -187,7 +187,7 @@ module _ (w : ℕ) where
   binaryRewrite Xor lhs rhs = foldRewrite xor lhs rhs
   binaryRewrite Concat lhs rhs = none
 
-  -- what a tree becomes at its root, or none
+  -- document 01's local rewrite: what a tree becomes at its root, or none
   unfoldable pub localRewrite : Expr → Option Expr
   localRewrite (leaf k) = none
   localRewrite (unary k t) = unaryRewrite k t
@@ -201,7 +201,7 @@ pub record Site : Type 0 where
   pub path : List ℕ
   pub replacement : Expr
 
--- the root as a site, and a child's site as its parent sees it
+-- the root as a site, and a child's site by its path from the parent
 abbrev pub here : Expr → Site
 here u = record { path = []; replacement = u }
 
@@ -209,7 +209,7 @@ abbrev pub below : ℕ → Site → Site
 below i s = record { path = i ∷ s .path; replacement = s .replacement }
 
 module _ (w : ℕ) where
-  -- the first site: children before parent, left before right
+  -- document 01's first site: children before parent, left before right
   unfoldable pub firstSite : Expr → Option Site
   firstSite (leaf k) = map here (localRewrite w (leaf k))
   firstSite (unary k t) = map (below 0) (firstSite t) orElse map here (localRewrite w (unary k t))

@@ -1,4 +1,4 @@
--- What is claimed of a node's candidates: the value by the tag, and for every tag the size, the depth, the width and the variables. Definitions only.
+-- What is claimed of a node's candidates: the value by the tag, and for every tag the nodes, the depth, the refusals and the variables. Definitions only.
 use mathlib.Core.Path.{_≡_}
 use mathlib.Core.Bool.{Bool, true, false, _||_}
 use mathlib.Core.List.{List}
@@ -7,13 +7,14 @@ use Prim.Native.Nat.{ℕ, _≤_, _<_}
 use lib.Dec.{T, eqb}
 use lib.ListN.{getElem?}
 use Rattle.arith.specs.Bv.{bvneg}
-use Rattle.expr.specs.Expr.{Expr, nodes, depth}
-use Rattle.value.specs.Value.{value}
-use Rattle.width.specs.Width.{isUniformWidth}
+use Rattle.expr.specs.Outcome.{accepted}
+use Rattle.expr.specs.Expr.{Expr, encode, nodes, depth}
+use Rattle.expr.specs.Parse.{parse}
+use Rattle.value.specs.Value.{value, isLent, oneWidth}
 use Rattle.rewriting.specs.Measures.{occurrences}
 use Rattle.rewriting.specs.AtomIdentityRewrite.{Candidate, orNotUnderNeg}
 
--- the element of that number, where the first has number 0: the kit's `getElem?`, which stays shut under this name
+-- the element of that number, where the first has number 0: the kit's `getElem?`, which is not unfolded under this name
 unfoldable pub numbered : {A : Type 0} → ℕ → List A → Option A
 numbered n xs = getElem? xs n
 
@@ -29,7 +30,11 @@ isSigned n = eqb n 2 || eqb n 3
 pub record Claim (w : ℕ) (node : Expr) (c : Candidate) : Type 0 where
   pub fewer : nodes (c .tree) < nodes node
   pub shallow : depth (c .tree) ≤ depth node
-  pub one-width : (widths : List ℕ) → isUniformWidth widths w node ≡ true → isUniformWidth widths w (c .tree) ≡ true
+  -- where the node's words pass 2 to 7, the candidate's do; and likewise 1 to 8 with any width list
+  pub is-tree : parse (encode node) ≡ accepted node → parse (encode (c .tree)) ≡ accepted (c .tree)
+  pub one-width : (widths : List ℕ) → oneWidth (encode node) w widths ≡ accepted node → oneWidth (encode (c .tree)) w widths ≡ accepted (c .tree)
+  -- a setting of the node is one of the candidate
+  pub lent : (σ : List ℕ) → isLent σ node ≡ true → isLent σ (c .tree) ≡ true
   pub variables : (i : ℕ) → occurrences i (c .tree) ≤ occurrences i node
   pub kept : T (keepsValue (c .tag)) → (σ : List ℕ) → value w σ (c .tree) ≡ value w σ node
   pub signed-kept : T (isSigned (c .tag)) → T (orNotUnderNeg node) → (σ : List ℕ) → value w σ (c .tree) ≡ value w σ node

@@ -8,9 +8,13 @@ use mathlib.Core.Option.{Option, none, some}
 use Prim.Native.Nat.{ℕ, zero, suc, _≤_, _<_}
 use native.Mathlib.Omega.{arith}
 use lib.Dec.{T}
-use Rattle.expr.specs.Expr.{Neg, Binary, Add, And, Or, Xor, Expr, leaf, unary, binary, nodes, depth}
+use Rattle.expr.specs.Outcome.{accepted}
+use Rattle.expr.specs.Expr.{Neg, Binary, Add, And, Or, Xor, Expr, leaf, unary, binary, encode, nodes, depth}
 use Rattle.expr.specs.ExprLaws.{nodes-pos}
-use Rattle.value.specs.Value.{value}
+use Rattle.expr.specs.Parse.{operandOk, operandsOk, parse}
+use Rattle.expr.specs.ParseLaws.{parse-sound, parse-encode}
+use Rattle.value.specs.Value.{value, isLent, oneWidth}
+use Rattle.value.specs.ValueLaws.{one-width-sound, one-width-complete}
 use Rattle.width.specs.Width.{binaryKeeps, isUniformWidth}
 use Rattle.rewriting.specs.Optional.{map, _orElse_}
 use Rattle.rewriting.specs.OptionalLaws.{Every, if-case, every-orElse, every-at, every-on, every-map-on}
@@ -20,7 +24,7 @@ use Rattle.rewriting.specs.AtomIdentityRewrite.{operandsOf, operandOfNot
 use Rattle.rewriting.specs.CandidateClaims.{numbered, keepsValue, isSigned, Claim}
 use Rattle.rewriting.specs.ShapeLaws.{_⊑_, as-it-is, child, left, right, both, swapped, in-turn, Less, less-left}
 use Rattle.rewriting.specs.MeasureLaws.{cut-nodes, cut-depth}
-use Rattle.rewriting.specs.KeptLaws.{cut-variables, cut-uniform}
+use Rattle.rewriting.specs.KeptLaws.{cut-variables, cut-uniform, cut-operands, cut-lent, valid-kept}
 use Rattle.rewriting.specs.MatchLaws.{operands, operand-not, Absorbs, absorbs, found-1, Minus, or-and, or-not, Differs, or-first, or-second, found-2, found-3, Insert, here, there, Product, product, or-in-product, PlusOne, plus-one, found-4, OrNotFlat, or-not-flat, found-5}
 use Rattle.rewriting.specs.IdentityLaws.{absorbs-value, Signed, differs-value, plus-one-value, or-not-flat-value}
 
@@ -52,6 +56,31 @@ shape-uniform widths v (of-or {k} {a} {b} e h) g =
     and-eq-true-iff (binaryKeeps k) (isUniformWidth widths v a && isUniformWidth widths v b) .1 (e, cut-uniform widths v (h .cut) g)
 shape-uniform widths v (of-xor {x} {y} h) g =
     and-eq-true-iff (isUniformWidth widths v x) (isUniformWidth widths v x && isUniformWidth widths v y) .0 (cut-uniform widths v h g) .1
+
+shape-operands : {t u : Expr} → Shape t u → operandsOk t ≡ true → operandsOk u ≡ true
+unfolding operandsOk operandOk
+shape-operands (of-or k h) g = cut-operands (h .cut) g
+shape-operands (of-xor {x} {y} h) g = and-eq-true-iff (operandsOk x) (operandsOk x && operandsOk y) .0 (cut-operands h g) .1
+
+shape-lent : (σ : List ℕ) {t u : Expr} → Shape t u → isLent σ t ≡ true → isLent σ u ≡ true
+unfolding isLent
+shape-lent σ (of-or k h) g = cut-lent σ (h .cut) g
+shape-lent σ (of-xor {x} {y} h) g = and-eq-true-iff (isLent σ x) (isLent σ x && isLent σ y) .0 (cut-lent σ h g) .1
+
+shape-tree : {t u : Expr} → Shape t u → parse (encode t) ≡ accepted t → parse (encode u) ≡ accepted u
+shape-tree {t} {u} h e =
+    let v = parse-sound (encode t) t e .valid in
+    parse-encode u (valid-kept (shape-depth h) (shape-operands h) v (omega (arith, shape-nodes h, v .count)))
+
+shape-one-width : (w : ℕ) (widths : List ℕ) {t u : Expr} → Shape t u → oneWidth (encode t) w widths ≡ accepted t → oneWidth (encode u) w widths ≡ accepted u
+shape-one-width w widths {t} {u} h e =
+    let o = one-width-sound (encode t) w widths t e in
+    one-width-complete (encode u) w widths u (record {
+      parsed = shape-tree h (o .parsed);
+      is-uniform = shape-uniform widths w h (o .is-uniform);
+      at-least = o .at-least;
+      at-most = o .at-most;
+    })
 
 -- ---- less than a node
 
@@ -193,7 +222,9 @@ module _ (w : ℕ) (node : Expr) where
   claim n h k s = record {
     fewer = shape-nodes h;
     shallow = shape-depth h;
-    one-width = λ widths. shape-uniform widths w h;
+    is-tree = shape-tree h;
+    one-width = λ widths. shape-one-width w widths h;
+    lent = λ σ. shape-lent σ h;
     variables = λ i. shape-variables i h;
     kept = k;
     signed-kept = λ g e σ. s g σ .kept e;

@@ -14,7 +14,7 @@ pub data Listed (w : ℕ) : Expr → List Expr → Type 0 where
   done : {t : Expr} → firstRewrite w t ≡ none → Listed w t (t ∷ [])
   more : {t u : Expr} {trees : List Expr} → firstRewrite w t ≡ some u → Listed w u trees → Listed w t (t ∷ trees)
 
--- the last tree of a list, the end tree where it is the list of trees from t on; t where the list is empty
+-- the last tree of a list, document 01's end tree where it is the list of trees from t on; t where the list is empty
 unfoldable pub lastOf : Expr → List Expr → Expr
 lastOf t [] = t
 lastOf t (u ∷ trees) = lastOf u trees
@@ -29,7 +29,7 @@ unfoldable pub treesOf : ℕ → Expr → List Expr
 treesOf w t = treesFrom (nodes t + 2 * D t) w t
 
 infix 4 _isAmong_
--- the tree is one of the list
-pub data _isAmong_ : Expr → List Expr → Type 0 where
-  first : {t : Expr} {trees : List Expr} → t isAmong (t ∷ trees)
-  later : {t u : Expr} {trees : List Expr} → t isAmong trees → t isAmong (u ∷ trees)
+-- the element is one of the list
+pub data _isAmong_ {A : Type 0} : A → List A → Type 0 where
+  first : {a : A} {xs : List A} → a isAmong (a ∷ xs)
+  later : {a b : A} {xs : List A} → a isAmong xs → a isAmong (b ∷ xs)

@@ -1,4 +1,4 @@
--- What a rewrite keeps: the value, one width, operands in range, a setting that is long enough; and no variable comes in. Assumes nothing.
+-- What a rewrite keeps: the value, a uniform width, operands in range, a setting that is long enough; and no variable comes in. Assumes nothing.
 use mathlib.Core.Path.{_≡_, refl, sym, ap, subst, _∙_}
 use mathlib.Core.Bool.{Bool, true, _&&_, and-eq-true-iff}
 use mathlib.Core.List.{List}
@@ -126,7 +126,7 @@ module _ {f : Expr → Bool} {one : Unary → Bool} {two : Binary → Bool} (p :
   first-everywhere : (w : ℕ) (t u : Expr) → firstRewrite w t ≡ some u → f t ≡ true → f u ≡ true
   first-everywhere w = at-first w (everywhere-rises w)
 
--- ---- one width, operands in range, and a setting with a word for each variable
+-- ---- a uniform width, operands in range, and a setting with a word for each variable
 
 uniform-everywhere : (widths : List ℕ) (v : ℕ) → Everywhere (isUniformWidth widths v) unaryKeeps binaryKeeps
 unfolding isUniformWidth
@@ -139,9 +139,15 @@ operands-everywhere : Everywhere operandsOk (λ k. operandOk (unaryNumber k) (un
 unfolding operandsOk operandOk
 operands-everywhere = record { in-constant = λ c. refl; in-unary = λ k t. refl; in-binary = λ k l r. refl; not-passes = refl; and-passes = refl; or-passes = refl }
 
+pub cut-operands : {t u : Expr} → u ⊑ t → operandsOk t ≡ true → operandsOk u ≡ true
+cut-operands = cut-everywhere operands-everywhere
+
 lent-everywhere : (σ : List ℕ) → Everywhere (isLent σ) (λ k. true) (λ k. true)
 unfolding isLent
 lent-everywhere σ = record { in-constant = λ c. refl; in-unary = λ k t. refl; in-binary = λ k l r. refl; not-passes = refl; and-passes = refl; or-passes = refl }
+
+pub cut-lent : (σ : List ℕ) {t u : Expr} → u ⊑ t → isLent σ t ≡ true → isLent σ u ≡ true
+cut-lent σ = cut-everywhere (lent-everywhere σ)
 
 -- the limits of document 01, of which a rewrite can break the number of nodes alone
 pub valid-kept : {t u : Expr} → depth u ≤ depth t → (operandsOk t ≡ true → operandsOk u ≡ true) → Valid t → nodes u ≤ 512 → Valid u

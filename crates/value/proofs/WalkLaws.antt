@@ -26,6 +26,7 @@ use Rattle.expr.specs.Parts.{tail}
 use Rattle.expr.specs.FrontLaws.{leaf-node, unary-node, binary-node, right-front, parse-front}
 use Rattle.width.specs.Width.{supported, isUniformWidth}
 use Rattle.width.specs.WidthLaws.{in-range, too-narrow, too-wide}
+use Rattle.width.specs.Checked.{checked}
 use Rattle.value.specs.declared.Valued.{Valued}
 use Rattle.value.specs.Value.{value, isLent, uniform, oneWidth, valueAt}
 use Rattle.value.specs.ValueLaws.{OneWidth, one-width-sound}
@@ -59,7 +60,7 @@ module _ (ws : List ℕ) (a : Arity) (e : arityOutcome a ≡ arityOf (getD ws 0 
 
 module _ (ws : List ℕ) (w : ℕ) (widths : List ℕ) where
   refused-1 : supported w ≡ false → refused (refusal 1) ≡ mapped nodes (oneWidth ws w widths)
-  unfolding oneWidth
+  unfolding oneWidth checked
   refused-1 e = rw e
 
   pub narrow-refused : w < 1 → refused (refusal 1) ≡ mapped nodes (oneWidth ws w widths)
@@ -71,7 +72,7 @@ module _ (ws : List ℕ) (w : ℕ) (widths : List ℕ) where
 
     module _ (q : w < 65) (y : Verdict) (e : verdictOutcome y ≡ mapped (isUniformWidth widths w) (parse ws)) where
       asked : mapped nodes (parse ws andThen uniform widths w) ≡ mapped nodes (oneWidth ws w widths)
-      unfolding oneWidth
+      unfolding oneWidth checked
       asked = rw (sym (in-range w p q))
 
       pub words-refused : (r : Refusal) → y ≡ verdict.Refused r → refused (reasonOf r) ≡ mapped nodes (oneWidth ws w widths)

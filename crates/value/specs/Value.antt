@@ -9,8 +9,8 @@ use Rattle.arith.specs.Bv.{bvadd, bvmul, bvand, bvor, bvxor, bvnot, bvneg, bvls
 use Rattle.expr.specs.Refusals.{refusal}
 use Rattle.expr.specs.Outcome.{Outcome, refused, accepted, _andThen_}
 use Rattle.expr.specs.Expr.{Constant, Variable, Unary, Not, Neg, Shr, ZExt, SExt, Trunc, Binary, Add, Mul, And, Or, Xor, Concat, Expr, leaf, unary, binary}
-use Rattle.expr.specs.Parse.{parse}
-use Rattle.width.specs.Width.{supported, isUniformWidth}
+use Rattle.width.specs.Width.{isUniformWidth}
+use Rattle.width.specs.Checked.{checked}
 
 -- a node with one child at width w, from the child's value; Shr goes by its operand as a number. A cast has no value at one width: no
 -- call gives one to a tree that has it, and 0 stands here
@@ -31,7 +31,7 @@ binaryValue w Or x y = bvor x y
 binaryValue w Xor x y = bvxor x y
 binaryValue w Concat x y = 0
 
--- the value of a tree at width w and a setting σ: a leaf's word is taken modulo 2 ^ w, and a variable without a word counts as 0 until
+-- the value of a tree at width w and a list σ of the variables' words: a leaf's word is taken modulo 2 ^ w, and a variable without a word counts as 0 until
 -- `valueAt` refuses the tree
 unfoldable pub value : ℕ → List ℕ → Expr → ℕ
 value w σ (leaf (Constant c)) = c % 2 ^ w
@@ -39,7 +39,7 @@ value w σ (leaf (Variable i)) = getD σ i 0 % 2 ^ w
 value w σ (unary k t) = unaryValue w k (value w σ t)
 value w σ (binary k l r) = binaryValue w k (value w σ l) (value w σ r)
 
--- the setting has a word for each variable of the tree
+-- the list has a word for each variable of the tree: document 01's setting
 unfoldable pub isLent : List ℕ → Expr → Bool
 isLent σ (leaf (Constant c)) = true
 isLent σ (leaf (Variable i)) = ltb i (length σ)
@@ -50,9 +50,9 @@ isLent σ (binary k l r) = isLent σ l && isLent σ r
 abbrev pub uniform : List ℕ → ℕ → Expr → Outcome Expr
 uniform widths w t = if isUniformWidth widths w t then accepted t else refused (refusal 8)
 
--- document 01's tree of one width, or the first of the refusals 1 to 8, at width w and a list of the variables' widths
+-- document 01's tree of one width, or the first of the refusals 1 to 8, at width w and a width list
 unfoldable pub oneWidth : List ℕ → ℕ → List ℕ → Outcome Expr
-oneWidth ws w widths = if supported w then parse ws andThen uniform widths w else refused (refusal 1)
+oneWidth ws w widths = checked w ws andThen uniform widths w
 
 -- the value of a tree of one width; 15 where a variable has no lent word
 unfoldable pub valueAt : ℕ → List ℕ → Expr → Outcome ℕ

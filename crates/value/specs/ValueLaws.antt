@@ -14,8 +14,10 @@ use Rattle.expr.specs.Refusals.{refusal}
 use Rattle.expr.specs.Outcome.{Outcome, refused, accepted, _andThen_}
 use Rattle.expr.specs.OutcomeLaws.{then-accepted}
 use Rattle.expr.specs.Parse.{parse}
-use Rattle.width.specs.Width.{supported, isUniformWidth}
+use Rattle.width.specs.Width.{isUniformWidth}
 use Rattle.width.specs.WidthLaws.{in-range, supported-is}
+use Rattle.width.specs.Checked.{checked}
+use Rattle.width.specs.CheckedLaws.{checked-is}
 use Rattle.expr.specs.Expr.{Constant, Variable, Unary, Not, Neg, Shr, ZExt, SExt, Trunc, Binary, Add, Mul, And, Or, Xor, Concat, Expr, leaf, unary, binary}
 use Rattle.value.specs.Value.{unaryValue, binaryValue, value, uniform, oneWidth}
 
@@ -59,32 +61,26 @@ pub record OneWidth (ws : List ℕ) (w : ℕ) (widths : List ℕ) (t : Expr) : T
 module _ (ws : List ℕ) (w : ℕ) (widths : List ℕ) (t : Expr) where
   pub one-width-sound : oneWidth ws w widths ≡ accepted t → OneWidth ws w widths t
   unfolding oneWidth
-  one-width-sound e = ranged (supported w) refl e
+  one-width-sound e = passed (checked w ws) refl e
     where
-      Sound : Type 0
-      Sound = OneWidth ws w widths t
-
-      kept : supported w ≡ true → (u : Expr) → parse ws ≡ accepted u → (b : Bool) → isUniformWidth widths w u ≡ b → (if b then accepted u else refused (refusal 8)) ≡ accepted t → Sound
-      kept s u p true q f =
+      kept : (u : Expr) → checked w ws ≡ accepted u → (b : Bool) → isUniformWidth widths w u ≡ b → (if b then accepted u else refused (refusal 8)) ≡ accepted t → OneWidth ws w widths t
+      kept u p true q f =
           let i : u ≡ t = cc in
+          let c = checked-is w ws u p in
           record {
-            parsed = p ∙ ap accepted i;
+            parsed = c .1 ∙ ap accepted i;
             is-uniform = subst (λ (v : Expr). isUniformWidth widths w v ≡ true) i q;
-            at-least = supported-is w s .0;
-            at-most = supported-is w s .1;
+            at-least = supported-is w (c .0) .0;
+            at-most = supported-is w (c .0) .1;
           }
-      kept s u p false q f = absurd (let z : _≡_ {A = ℕ} 0 1 = cc in omega arith)
+      kept u p false q f = absurd (let z : _≡_ {A = ℕ} 0 1 = cc in omega arith)
 
-      parsed : supported w ≡ true → (o : Outcome Expr) → parse ws ≡ o → (o andThen uniform widths w) ≡ accepted t → Sound
-      parsed s (refused r) p f = absurd (let z : _≡_ {A = ℕ} 0 1 = cc in omega arith)
-      parsed s (accepted u) p f = kept s u p (isUniformWidth widths w u) refl f
-
-      ranged : (b : Bool) → supported w ≡ b → (if b then parse ws andThen uniform widths w else refused (refusal 1)) ≡ accepted t → Sound
-      ranged true s f = parsed s (parse ws) refl f
-      ranged false s f = absurd (let z : _≡_ {A = ℕ} 0 1 = cc in omega arith)
+      passed : (o : Outcome Expr) → checked w ws ≡ o → (o andThen uniform widths w) ≡ accepted t → OneWidth ws w widths t
+      passed (refused r) p f = absurd (let z : _≡_ {A = ℕ} 0 1 = cc in omega arith)
+      passed (accepted u) p f = kept u p (isUniformWidth widths w u) refl f
 
   pub one-width-complete : OneWidth ws w widths t → oneWidth ws w widths ≡ accepted t
-  unfolding oneWidth
+  unfolding oneWidth checked
   one-width-complete o =
       (let s : oneWidth ws w widths ≡ (parse ws andThen uniform widths w) = rw (sym (in-range w (o .at-least) (omega (arith, o .at-most)))) in s)
       ∙ then-accepted (o .parsed) (uniform widths w)

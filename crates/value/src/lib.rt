@@ -1,5 +1,5 @@
-// The value of a tree of one width at a setting. In document 01's terms a tree is of one width if a call with that width and that list of
-// the variables' widths gives it none of the refusals 1 to 8; a setting is a list that has a word for each variable, by its number.
+// The value of a tree of one width at a setting. In document 01's terms a tree is of one width if a call with that width and that width list
+// gives it none of the refusals 1 to 8; a setting is a list that has a word for each variable, by its number.
 ghost use mathlib.Core.Path.{_≡_};
 ghost use mathlib.Core.List.{List};
 ghost use Prim.Native.Nat.{ℕ, _≤_, _<_, _^_};

@@ -1,5 +1,5 @@
 pub mod KindLaws
 pub mod NodeLaws
 pub mod WalkLaws
-pub mod OneWidthLaws
+pub mod UniformWalkLaws
 pub mod CheckLaws

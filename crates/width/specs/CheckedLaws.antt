@@ -8,7 +8,7 @@ use Rattle.arith.specs.Choice.{if_then_else_}
 use Rattle.expr.specs.declared.Counted.{Counted}
 use Rattle.expr.specs.declared.Counted.the-variants as counted
 use Rattle.expr.specs.Refusals.{refusal}
-use Rattle.expr.specs.Outcome.{Outcome, refused, accepted, mapped}
+use Rattle.expr.specs.Outcome.{refused, accepted, mapped}
 use Rattle.expr.specs.OutcomeLaws.{mapped-made}
 use Rattle.expr.specs.Expr.{Expr, encode, nodes}
 use Rattle.expr.specs.Parse.{parse}
@@ -17,22 +17,13 @@ use Rattle.expr.specs.Answers.{countedOutcome}
 use Rattle.width.specs.Width.{supported}
 use Rattle.width.specs.Checked.{checked}
 
--- a refusal of the width stays, whatever is made of the tree
-pub checked-then : {B : Type 0} (w : ℕ) (ws : List ℕ) (f : Outcome Expr → Outcome B) → f (refused (refusal 1)) ≡ refused (refusal 1)
-    → (if supported w then f (parse ws) else refused (refusal 1)) ≡ f (checked w ws)
+-- words that pass are accepted, and the width is supported
+pub checked-is : (w : ℕ) (ws : List ℕ) (t : Expr) → checked w ws ≡ accepted t → (supported w ≡ true) × (parse ws ≡ accepted t)
 unfolding checked
-checked-then w ws f e = go (supported w)
+checked-is w ws t = go (supported w)
   where
-    go : (b : Bool) → (if b then f (parse ws) else refused (refusal 1)) ≡ f (if b then parse ws else refused (refusal 1))
-    go true = refl
-    go false = sym e
-
-pub checked-parse : (w : ℕ) (ws : List ℕ) (t : Expr) → checked w ws ≡ accepted t → parse ws ≡ accepted t
-unfolding checked
-checked-parse w ws t = go (supported w)
-  where
-    go : (b : Bool) → (if b then parse ws else refused (refusal 1)) ≡ accepted t → parse ws ≡ accepted t
-    go true e = e
+    go : (b : Bool) → (if b then parse ws else refused (refusal 1)) ≡ accepted t → (b ≡ true) × (parse ws ≡ accepted t)
+    go true e = (refl, e)
     go false e = absurd (let z : _≡_ {A = ℕ} 0 1 = cc in omega arith)
 
 -- a tree that was checked, and how many nodes it has
@@ -46,5 +37,5 @@ pub record Tree (w : ℕ) (ws : List ℕ) (n : ℕ) : Type 0 where
 pub checked-tree : (w : ℕ) (ws : List ℕ) (x : Counted) → countedOutcome x ≡ mapped nodes (checked w ws) → (n : ℕ) → x ≡ counted.Count n → Tree w ws n
 checked-tree w ws x h n e =
     let m = mapped-made nodes (checked w ws) (ap countedOutcome (sym e) ∙ h) in
-    let a = parse-sound ws (m .answer) (checked-parse w ws (m .answer) (m .was)) in
+    let a = parse-sound ws (m .answer) (checked-is w ws (m .answer) (m .was) .1) in
     record { tree = m .answer; is = m .was; words = a .words; count = m .made; few = omega (arith, m .made, a .valid .count) }

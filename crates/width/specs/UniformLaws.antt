@@ -1,4 +1,4 @@
--- A tree of one width w, from 1 to 64, has that width, and its widths are consistent. Assumes nothing.
+-- A tree that is uniform at a width from 1 to 64 has that width, and its widths are consistent. Assumes nothing.
 use mathlib.Core.Path.{_≡_, refl, ap, _∙_}
 use mathlib.Core.Bool.{true, _&&_}
 use mathlib.Core.List.{List}

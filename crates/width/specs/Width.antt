@@ -30,7 +30,7 @@ unaryWidth (ZExt w) c = accepted w
 unaryWidth (SExt w) c = accepted w
 unaryWidth (Trunc w) c = accepted w
 
--- the width of a node with two, from theirs: a Concat has the sum, and its left child is asked first; the others have the left child's
+-- the width of a node with two, from theirs: a Concat has the sum, and its left child's refusal is first; the others have the left child's
 abbrev pub binaryWidth : Binary → Outcome ℕ → Outcome ℕ → Outcome ℕ
 binaryWidth Add l r = l
 binaryWidth Mul l r = l
@@ -66,7 +66,7 @@ binaryRule Or l r = agree l r
 binaryRule Xor l r = agree l r
 binaryRule Concat l r = valid
 
--- `widths` is the lent list of the variables' widths; a variable past its end has the default width
+-- `widths` is document 01's width list, the widths of the variables by their number; a variable past its end has the default width
 module _ (widths : List ℕ) (default : ℕ) where
   -- `checked_width_of`: the width of a tree, or 10 at the first node on the way to it whose width is out of range
   unfoldable pub checkedWidthOf : Expr → Outcome ℕ
@@ -107,7 +107,7 @@ binaryKeeps Or = true
 binaryKeeps Xor = true
 binaryKeeps Concat = false
 
--- `is_uniform_width`: no cast and no Concat, and every variable is w bits wide; here w is the default width too
+-- `is_uniform_width`, a uniform tree: no cast and no Concat, and every variable is w bits wide; here w is the default width too
 unfoldable pub isUniformWidth : List ℕ → ℕ → Expr → Bool
 isUniformWidth widths w (leaf (Constant c)) = true
 isUniformWidth widths w (leaf (Variable i)) = eqb (getD widths i w) w

@@ -1,5 +1,5 @@
-// The widths of a tree's nodes, after width.rs. `var_widths` has the widths of the variables by their number; a variable past its end
-// has the default width.
+// The widths of a tree's nodes, after width.rs. `var_widths` is document 01's width list: the widths of the variables by their number; a
+// variable past its end has the default width.
 ghost use mathlib.Core.Path.{_≡_};
 ghost use mathlib.Core.Bool.{_&&_};
 ghost use mathlib.Core.List.{List};
@@ -44,7 +44,7 @@ struct WidthsRead {
     widths: Widths,
 }
 
-// Whether a subtree is of one width, and how many words it takes.
+// Whether a subtree is uniform, as `is_uniform_width` has it, and how many words it takes.
 struct UniformRead {
     words: usize,
     uniform: bool,
@@ -88,7 +88,7 @@ fn unary_width(kind: u64, operand: u32, child: u32) -> u32
     operand
 }
 
-// A Concat asks its left child before the right one. Both have at most 64 bits, so their sum does not overflow.
+// A Concat refuses by its left child before the right one. Both have at most 64 bits, so their sum does not overflow.
 fn concat_width(left: u32, right: u32) -> u32
     ensures { λ r. ⌜ ranged r ≡ (binaryWidth Concat (ranged left) (ranged right) andThen ranged) ⌝ }
 {
@@ -110,7 +110,7 @@ fn binary_width(kind: u64, left: u32, right: u32) -> u32
     left
 }
 
-// What a node asks of its one child: a cast to `target` bits that it fits, any other kind nothing.
+// The operand rule of a node with one child: a cast to `target` bits has to fit it, for any other kind there is none.
 fn unary_rule(kind: u64, target: u32, child: u32) -> Validity
     ensures { λ r. ⌜ ((k : Unary) → kind ≡ unaryNumber k → target ≡ unaryOperand k → validityOutcome r ≡ unaryRule k (accepted child)) ⌝ }
 {
@@ -129,7 +129,7 @@ fn unary_rule(kind: u64, target: u32, child: u32) -> Validity
     Validity::Valid
 }
 
-// What a node asks of its two children: all but Concat that they have the same width.
+// The operand rule of a node with two children: they have the same width, unless it is a Concat.
 fn binary_rule(kind: u64, left: u32, right: u32) -> Validity
     ensures { λ r. ⌜ ((k : Binary) → kind ≡ binaryNumber k → validityOutcome r ≡ binaryRule k (accepted left) (accepted right)) ⌝ }
 {
@@ -309,7 +309,7 @@ fn leaf_uniform(kind: u64, operand: u64, var_widths: &[u32], w: u32) -> bool
     variable_width(var_widths, operand, w) == w
 }
 
-// A cast is not of one width.
+// A cast is not uniform.
 fn unary_uniform(kind: u64, child: bool) -> bool
     ensures { λ r. ⌜ ((k : Unary) → kind ≡ unaryNumber k → r ≡ (unaryKeeps k && child)) ⌝ }
 {
@@ -332,7 +332,7 @@ fn binary_uniform(kind: u64, left: bool, right: bool) -> bool
     right
 }
 
-// Whether the subtree at the front of the words is of the one width w.
+// Whether the subtree at the front of the words is uniform at the width w.
 fn uniform_at(ws: &[u64], var_widths: &[u32], w: u32) -> UniformRead
     requires { ⌜ Starts (now ws) ⌝ }
     ensures { λ r. ⌜ Read (now (ws .entry)) (r .words) (Gives (isUniformWidth (now («var_widths» .entry)) w) (r .uniform)) ⌝ }

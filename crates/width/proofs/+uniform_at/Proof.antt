@@ -5,7 +5,7 @@ use borrow.Author.Needs.{needs}
 use borrow.Fn.Kinds.{In}
 use borrow.Fn.PlainCycle.{Measures, is, falls, and}
 use Rattle.expr.specs.FrontLaws.{walk}
-use Rattle.width.proofs.OneWidthLaws.{leaf-uniform, unary-uniform, binary-uniform}
+use Rattle.width.proofs.UniformWalkLaws.{leaf-uniform, unary-uniform, binary-uniform}
 use Rattle.width.proofs.uniform_at.Reads as fn
 use Rattle.width.proofs.uniform_at.Kinds as kinds
 use Rattle.width.proofs.+uniform_at.Lts-uniform_at as lts

@@ -1,6 +1,6 @@
 -- `width::binary_uniform` meets its contract. Assumes nothing.
 use borrow.Author.Needs.{needs}
-use Rattle.width.proofs.OneWidthLaws.{concat-uniform, left-not, right-decides}
+use Rattle.width.proofs.UniformWalkLaws.{concat-uniform, left-not, right-decides}
 use Rattle.width.proofs.binary_uniform.Statement.{statement}
 use Rattle.width.proofs.binary_uniform.Tie as tie
 

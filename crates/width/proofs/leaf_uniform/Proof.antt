@@ -1,6 +1,6 @@
 -- `width::leaf_uniform` meets its contract. Assumes nothing.
 use borrow.Author.Needs.{needs}
-use Rattle.width.proofs.OneWidthLaws.{constant-uniform, variable-uniform}
+use Rattle.width.proofs.UniformWalkLaws.{constant-uniform, variable-uniform}
 use Rattle.width.proofs.leaf_uniform.Statement.{statement}
 use Rattle.width.proofs.leaf_uniform.Tie as tie
 

@@ -1,6 +1,6 @@
 -- `width::unary_uniform` meets its contract. Assumes nothing.
 use borrow.Author.Needs.{needs}
-use Rattle.width.proofs.OneWidthLaws.{unary-keeps, cast-keeps-not}
+use Rattle.width.proofs.UniformWalkLaws.{unary-keeps, cast-keeps-not}
 use Rattle.width.proofs.unary_uniform.Statement.{statement}
 use Rattle.width.proofs.unary_uniform.Tie as tie
 

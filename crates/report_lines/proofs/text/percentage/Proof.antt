@@ -12,5 +12,5 @@ percentage-spec =
     (tie.spec
     (λ c. search rules)
     (λ c. search rules)
-    (λ c κs. search rules)
+    (λ c. search rules)
     (λ c. search rules))

@@ -1,4 +1,4 @@
--- Whether a node is of one width, from its children. Assumes nothing.
+-- Whether a node is uniform, from its children. Assumes nothing.
 use mathlib.Core.Path.{_≡_, refl, sym, ap, ap₂, _∙_}
 use mathlib.Core.Bool.{Bool, true, false, not, _&&_}
 use mathlib.Core.List.{List}
