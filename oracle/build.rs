@@ -1,6 +1,6 @@
-//! Writes OUT_DIR/core.rs and OUT_DIR/passes.rs, through which rustc reads the original files unchanged. A file whose public
+//! Writes OUT_DIR/core.rs and OUT_DIR/passes.rs, through which rustc reads the Rust's files unchanged. A file whose public
 //! functions are asked is named where it stands. One whose private functions are asked is read from a copy, which is the
-//! original's bytes and then those of src/access.
+//! Rust's bytes and then those of src/access.
 use std::{
     env, fs,
     path::{Path, PathBuf},
@@ -25,7 +25,7 @@ fn main() {
         .map_or_else(|_| here.join("../../shared/docs/src/crates"), PathBuf::from);
     // rustc would seek a relative path from OUT_DIR
     let crates = fs::canonicalize(&crates).unwrap_or_else(|e| {
-        panic!("no folder {crates:?}, set COBRA_SRC to the original's crates folder: {e}")
+        panic!("no folder {crates:?}, set COBRA_SRC to the Rust's crates folder: {e}")
     });
     let out = PathBuf::from(env::var("OUT_DIR").unwrap());
     println!("cargo:rerun-if-env-changed=COBRA_SRC");

@@ -1,4 +1,4 @@
-"""The time of a proved program and of the original Rust, on the same input."""
+"""The time of a proved program and of the Rust, on the same input."""
 import os
 import resource
 import subprocess

@@ -4,7 +4,7 @@ import sys
 
 sys.dont_write_bytecode = True  # the repository stays as it is
 
-from lists import arithmetic, candidates, chains, costs, readme, refusals, rewrites, tables, trees, values, widths
+from lists import arithmetic, candidates, chains, costs, frames, limits, readme, refusals, rewrites, tables, trees, values, widths
 from lists.common import Random
 
 
@@ -15,7 +15,7 @@ def of_replay():
             + trees.arities() + trees.valid_trees(Random(5))
             + trees.few_words() + trees.many_words(Random(6)) + trees.depths() + trees.operands() + trees.kinds()
             + trees.words_that_end(Random(7)) + trees.words_left_over(Random(8)) + trees.two_refusals()
-            + trees.damaged_trees(Random(9)) + trees.rubbish(Random(10))
+            + trees.damaged_trees(Random(9), 600, 160) + trees.rubbish(Random(10), 120)
             + trees.first_subtrees(Random(11)) + trees.unlooked_at()
             + trees.equal_lists(Random(12))
             + widths.requests(Random) + costs.requests(Random) + values.requests(Random) + refusals.requests(Random)
@@ -34,8 +34,12 @@ def of_replay_candidates():
     return candidates.requests(Random)
 
 
+def of_replay_frames():
+    return frames.requests(Random) + limits.of_frames()
+
+
 programs = {"replay": of_replay, "replay_rewrites": of_replay_rewrites, "replay_chain": of_replay_chain,
-            "replay_candidates": of_replay_candidates}
+            "replay_candidates": of_replay_candidates, "replay_frames": of_replay_frames}
 if sys.argv[1] == "report":
     sys.stdout.buffer.write(tables.stored(Random))
 else:

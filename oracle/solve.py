@@ -70,8 +70,8 @@ def solved(command, script, count):
     return values
 
 
-def main():
-    lines = sys.stdin.read().splitlines()
+def with_values(lines):
+    """The lines, with a value in each that is left open, and how many those are."""
     asked = [line[:-len(OPEN)] for line in lines if line.endswith(OPEN)]
     script = "(set-logic QF_BV)\n" + "".join(query(request) for request in asked) + "(exit)\n"
     first, second = [solved(command, script, len(asked)) for command in SOLVERS]
@@ -79,8 +79,9 @@ def main():
         if a != b:
             sys.exit(f"z3 {a:x}, cvc5 {b:x}: {request}")
     values = iter(first)
-    for line in lines:
-        print(f"{line[:-len(OPEN)]} = {next(values):x}" if line.endswith(OPEN) else line)
+    return [f"{line[:-len(OPEN)]} = {next(values):x}" if line.endswith(OPEN) else line for line in lines], len(asked)
 
 
-main()
+if __name__ == "__main__":
+    for answer in with_values(sys.stdin.read().splitlines())[0]:
+        print(answer)

@@ -1,5 +1,5 @@
 """Requests to arith.rs."""
-from .common import BIG, EDGES, MAX, request
+from .common import BIG, EDGES, MAX, request, rounds
 
 WIDTHS = [0, 1, 2, 7, 8, 31, 32, 63, 64, 65, BIG - 1]
 SHIFTS = [0, 1, 4, 7, 8, 31, 32, 63, 64, 65, BIG, MAX]
@@ -54,3 +54,21 @@ def sign_extensions(rng):
             known = near(source)[:3] + [rng.pick(near(to)), rng.pick(EDGES), MAX, rng.word()]
             lines += [request("sext", [v, source, to]) for v in filled(rng, known, 8)]
     return lines
+
+
+def at_random(rng, count):
+    """Each call so many times: any width, and values about it or of any size."""
+    lines = []
+    for _ in range(count):
+        w, to = [rng.below(68) if rng.below(8) else rng.pick(WIDTHS) for _ in range(2)]
+        a, b = [rng.pick(near(w)) if rng.below(3) == 0 else rng.any_size() for _ in range(2)]
+        k = rng.below(66) if rng.below(3) else rng.any_size()
+        lines += [request("bitmask", [w]), request("sign_bit_mask", [w]), request("mod_shr", [a, k, w]), request("sext", [a, w, to])]
+        lines += [request(name, [a, b, w]) for name in ("mod_add", "mod_sub", "mod_mul")]
+        lines += [request(name, [a, w]) for name in ("mod_neg", "mod_not", "zext", "trunc")]
+    return lines
+
+
+def further(rng, size):
+    """For long runs: other numbers at each seed, of at most so many bytes."""
+    return rounds(size, lambda: at_random(rng, 100))

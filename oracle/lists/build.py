@@ -4,6 +4,7 @@ from .common import BIG, EDGES, MAX
 LEAVES = [0, 1]
 UNARY = [7, 8, 9, 10, 11, 12]
 BINARY = [2, 3, 4, 5, 6, 13]
+CHILDREN = dict.fromkeys(UNARY, 1) | dict.fromkeys(BINARY, 2)
 WITH_NUMBER = [1, 9, 10, 11, 12]  # operand of 32 bits
 BAD_KINDS = [14, 15, 0xFF, 0x100, 0x10D, BIG - 1, BIG, BIG + 1, BIG + 2, 1 << 63, MAX]
 
@@ -15,10 +16,14 @@ BAD_KIND = [14, 0]
 BAD_OPERAND = [1, BIG]
 
 
+def children(kind):
+    """How many a node of this kind has."""
+    return CHILDREN.get(kind, 0)
+
+
 def over(kind, operand, leaf):
     """A node over as many leaves as it needs."""
-    children = 2 if kind in BINARY else 1 if kind in UNARY else 0
-    return [kind, operand] + leaf * children
+    return [kind, operand] + leaf * children(kind)
 
 
 def nots(count, leaf=CONSTANT):
@@ -39,6 +44,16 @@ def balanced(parts):
         return parts[0]
     half = len(parts) // 2
     return ADD + balanced(parts[:half]) + balanced(parts[half:])
+
+
+def all_trees(leaves, unary, binary, most):
+    """All trees over the leaves, by their number of nodes."""
+    trees = {1: leaves}
+    for size in range(2, most + 1):
+        trees[size] = [kind + child for kind in unary for child in trees[size - 1]]
+        for left in range(1, size - 1):
+            trees[size] += [kind + a + b for kind in binary for a in trees[left] for b in trees[size - 1 - left]]
+    return trees
 
 
 def constant(rng):

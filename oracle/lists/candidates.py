@@ -2,10 +2,10 @@
 from itertools import permutations
 
 from .build import BAD_KIND, BAD_OPERAND, any_leaf, balanced, damaged, nots, random_tree, some_size
-from .common import BIG, MAX, request
+from .common import BIG, MAX, request, rounds
 from .refusals import broken
 from .rewrites import no_tree_lists, random_width
-from .sites import ADD, AND, MUL, NEG, NOT, OR, X, XOR, Y, Z, above, closed, near
+from .sites import ADD, AND, MUL, NEG, NOT, OR, X, XOR, Y, Z, about_64_levels, above, closed, near
 from .stacks import depth
 from .sums import (ONE, TWO, absorbs, addends, drawn_sum, even_sum, flat, flat_parts, forms, from_ors, left_sum, nearly, or_minus_and,
                    or_minus_not, plus_one, plus_one_parts, right_sum, some_addend, some_operand, some_or, some_sum, some_xor, turned)
@@ -129,13 +129,17 @@ def ors(rng):
     return lines
 
 
-def sums_of_ors(rng):
+def sum_over(rng, width, a, b, count):
+    """A sum of so many addends over two operands."""
+    return drawn_sum(rng, [some_addend(rng, a, b, width) for _ in range(count)])
+
+
+def sums_of_ors(rng, count):
     lines = []
-    for turn in range(120):
+    for turn in range(count):
         width = random_width(rng)
         a, b = some_operand(rng, 3), some_operand(rng, 3)
-        parts = [some_addend(rng, a, b, width) for _ in range(2 + rng.below(9))]
-        words = drawn_sum(rng, parts)
+        words = sum_over(rng, width, a, b, 2 + rng.below(9))
         words = ADD + words + some_or(rng, a, b) if words[0] != ADD[0] else words
         lines += each(words, width) if turn % 3 == 0 else ends(words, width)
     return lines
@@ -151,10 +155,10 @@ def near_misses(rng):
     return lines
 
 
-def equal_and_near(rng):
+def equal_and_near(rng, count):
     """Larger operands, equal or different in one node, or one longer than the other."""
     lines = []
-    for turn in range(60):
+    for turn in range(count):
         width = random_width(rng)
         t, b = closed(rng, width, 2 + rng.below(24), False), closed(rng, width, 1 + rng.below(6), False)
         u = [t, near(rng, t, width), near(rng, t, width), NEG + t][turn % 4]
@@ -200,7 +204,7 @@ def large_sums(rng, count):
     while len(lines) < count:
         width = random_width(rng)
         a, b = some_operand(rng, 1 + rng.below(9)), some_operand(rng, 1 + rng.below(9))
-        words = drawn_sum(rng, [some_addend(rng, a, b, width) for _ in range(10 + rng.below(40))])
+        words = sum_over(rng, width, a, b, 10 + rng.below(40))
         if words[0] == ADD[0] and len(words) <= 1024 and depth(words) <= 64:
             lines += ends(words, width) + [candidate(words, width, rng.below(from_ors(words) + 1), random_room(rng, words))]
     return lines
@@ -313,6 +317,16 @@ def damaged_trees(rng, count):
     return lines
 
 
+def random_sizes(rng, count):
+    """Words lent around the least, and widths that are none."""
+    lines = []
+    for _ in range(count):
+        words = some_tree(rng, 8)
+        size = max(0, len(words) + rng.pick([-2, -1, -1, 0, 1, 2, -len(words)]))
+        lines.append(candidate(words, rng.pick([8, 8, 64, 1, 0, 65, BIG - 1]), rng.below(3), size))
+    return lines
+
+
 def repeated():
     """The requests for measuring, with small counts."""
     words = left_sum(plus_one_parts(X, Y))
@@ -322,19 +336,14 @@ def repeated():
 
 
 def requests(random):
-    return (worked() + each_form() + first_of_two() + below_neg() + constants() + ors(random(170)) + sums_of_ors(random(171))
-            + near_misses(random(172)) + equal_and_near(random(173)) + random_sums(random(174), 1200) + random_trees(random(175), 200)
+    return (worked() + each_form() + first_of_two() + below_neg() + constants() + ors(random(170)) + sums_of_ors(random(171), 120)
+            + near_misses(random(172)) + equal_and_near(random(173), 60) + random_sums(random(174), 1200) + random_trees(random(175), 200)
             + large_sums(random(176), 160) + most_candidates() + many_addends() + full_trees(random(177)) + deep_trees() + numbers()
             + sizes() + widths() + no_trees() + damaged_trees(random(178), 150) + repeated())
 
 
 def further(rng, size):
     """For long runs: other trees at each seed, of at most so many bytes."""
-    lines = []
-    while True:
-        more = (random_sums(rng, 400) + random_trees(rng, 60) + equal_and_near(rng)[:60] + sums_of_ors(rng)[:60] + large_sums(rng, 16)
-                + damaged_trees(rng, 20))
-        size -= sum(len(line) + 1 for line in more)
-        if size < 0:
-            return lines
-        lines += more
+    return rounds(size, lambda: random_sums(rng, 400) + random_trees(rng, 60) + equal_and_near(rng, 10) + sums_of_ors(rng, 20)
+                  + large_sums(rng, 9) + damaged_trees(rng, 40) + random_sizes(rng, 40)
+                  + [candidate(about_64_levels(rng), 8) for _ in range(3)])

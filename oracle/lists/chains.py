@@ -1,10 +1,9 @@
 """Requests to the chain: all rewrites of a tree, one after the other."""
 from .build import BAD_KIND, BAD_OPERAND, CONSTANT, VARIABLE, balanced, damaged, left_chain, nots, some_size
-from .common import BIG, MAX, request
+from .common import BIG, MAX, request, rounds
 from .refusals import CAST, OTHER, broken
-from .rewrites import grown, halved, near_forms, no_tree_lists, parts, random_width, worked_trees
-from .sites import (ADD, AND, BITWISE, NEG, NOT, OR, X, XOR, Y, Z, above, closed, comb, near, ones, put_in, quiet, site_forms,
-                    some_site)
+from .rewrites import grown, halved, near_forms, no_tree_lists, parts, random_width, with_some_sites, worked_trees
+from .sites import (ADD, AND, BITWISE, NEG, NOT, OR, X, XOR, Y, Z, about_64_levels, above, closed, comb, near, ones, quiet, site_forms)
 from .stacks import (MOST_WORK, SHR0, SHR1, between, busy, going_down, largest_room, leftward, level_by_level, numbered, other_leaf,
                      pairs_of_2048, room, room_of_2048, sized, some_leaf)
 from .trees import with_two_refusals
@@ -20,6 +19,15 @@ def random_chain(rng, words, width):
     """With room that is just enough or more, and a list that the tree is of one width with."""
     size = min(MOST_WORK, room(words) + rng.pick([0, 0, 0, 1, 2, 7, 60]))
     return chain(words, width, size, [width] * rng.pick([0, 0, 0, 1, 2, 5, 9]))
+
+
+def at_random(rng, count, make):
+    """So many trees, each at a width of its own; `make` is given the width and how many came before."""
+    lines = []
+    for turn in range(count):
+        width = random_width(rng)
+        lines.append(random_chain(rng, make(width, turn), width))
+    return lines
 
 
 # Small trees
@@ -62,60 +70,48 @@ def each_width():
     return lines
 
 
-def small_and_busy(rng):
-    lines = []
-    for _ in range(3600):
-        width = random_width(rng)
-        lines.append(random_chain(rng, busy(rng, width, 3 + rng.below(10)), width))
-    return lines
+def small_and_busy(rng, count):
+    return at_random(rng, count, lambda width, _: busy(rng, width, 3 + rng.below(10)))
 
 
 # Ordinary tables
 
-def to_40_nodes(rng):
-    lines = []
-    for turn in range(2200):
-        width = random_width(rng)
-        nodes = 1 + rng.below(40)
-        lines.append(random_chain(rng, busy(rng, width, nodes, [some_leaf, other_leaf][turn % 2]), width))
-    return lines
+def to_40_nodes(rng, count):
+    return at_random(rng, count, lambda width, turn: busy(rng, width, 1 + rng.below(40), [some_leaf, other_leaf][turn % 2]))
 
 
-def sites_put_in(rng):
+def sites_put_in(rng, count):
     """Trees without a site, and the same with one to five put in."""
-    lines = []
-    for turn in range(520):
-        width = random_width(rng)
-        words = quiet(rng, width, some_size(rng, 40))
-        for _ in range(turn % 6):
-            words = put_in(rng, words, some_site(rng, width, 1 + rng.below(16)))
-        lines.append(random_chain(rng, words, width))
-    return lines
+
+    def make(width, turn):
+        return with_some_sites(rng, quiet(rng, width, some_size(rng, 40)), width, turn % 6, 16)
+
+    return at_random(rng, count, make)
 
 
-def each_form(rng):
+def each_form(rng, turns):
     """The forms of a site over trees that have sites themselves."""
     lines = []
-    for _ in range(6):
+    for _ in range(turns):
         width = random_width(rng)
         a, b = busy(rng, width, 2 + rng.below(6)), busy(rng, width, 1 + rng.below(6))
         lines += [random_chain(rng, words, width) for words in site_forms(width, a, b, [0, rng.any_size()])]
     return lines
 
 
-def gathered(rng):
+def gathered(rng, count):
     """Constants in two to ten nodes of one operator, or with another one among them, over a part that may have sites."""
-    lines = []
-    for _ in range(420):
-        width = random_width(rng)
+
+    def make(width, _):
         kind = rng.pick(BITWISE)
         words = busy(rng, width, 1 + rng.below(6))
         for _ in range(2 + rng.below(9)):
             own = rng.pick(BITWISE) if rng.below(8) == 0 else kind
             number = [0, rng.pick([rng.any_size(), rng.below(4), ones(width), 0, above(width, 3)])]
             words = NOT * (rng.below(12) == 0) + (own + words + number if rng.below(2) else own + number + words)
-        lines.append(random_chain(rng, words, width))
-    return lines
+        return words
+
+    return at_random(rng, count, make)
 
 
 def met_again(rng):
@@ -132,17 +128,16 @@ def met_again(rng):
     return lines
 
 
-def made_equal(rng):
+def made_equal(rng, count):
     """Two parts that are equal, or are so after rewrites, or are not."""
-    lines = []
-    for turn in range(360):
-        width = random_width(rng)
+
+    def make(width, turn):
         nodes = 2 + rng.below(20)
         t = busy(rng, width, nodes) if turn % 2 else closed(rng, width, nodes, False)
         u = [t, near(rng, t, width), NOT + NOT + t, SHR0 + t, NOT + NOT + near(rng, t, width)][turn % 5]
-        words = near_forms(t, u, [NEG + X, Y][turn % 2])[turn % 9]
-        lines.append(random_chain(rng, words, width))
-    return lines
+        return near_forms(t, u, [NEG + X, Y][turn % 2])[turn % 9]
+
+    return at_random(rng, count, make)
 
 
 # Nots over And and Or
@@ -157,19 +152,18 @@ def nots_of_one_level():
     return lines
 
 
-def nots_above(rng):
+def nots_above(rng, count):
     """Nots over a chain, before each of its levels, and over balanced levels."""
-    lines = []
-    for turn in range(500):
-        width = random_width(rng)
+
+    def make(width, turn):
         below = [numbered(), sized(rng, width, 1 + rng.below(3)), lambda: some_leaf(rng, width)][turn % 3]
-        count = rng.below(9)
+        over = rng.below(9)
         few = [below() if rng.below(2) else NOT + below() for _ in range(2 + rng.below(14))]
-        words = [lambda: going_down(rng, count, 1 + rng.below(9), below), lambda: leftward(count, 1 + rng.below(9), below),
-                 lambda: between(rng, rng.below(4), 1 + rng.below(9), below),
-                 lambda: NOT * count + level_by_level(few, [AND, OR])][rng.below(4)]()
-        lines.append(random_chain(rng, words, width))
-    return lines
+        return [lambda: going_down(rng, over, 1 + rng.below(9), below), lambda: leftward(over, 1 + rng.below(9), below),
+                lambda: between(rng, rng.below(4), 1 + rng.below(9), below),
+                lambda: NOT * over + level_by_level(few, [AND, OR])][rng.below(4)]()
+
+    return at_random(rng, count, make)
 
 
 def hard(rng):
@@ -188,20 +182,12 @@ def hard(rng):
 
 # Large trees
 
-def large_trees(rng):
-    """From 60 nodes to 512."""
-    lines = []
-    for turn in range(170):
-        width = random_width(rng)
-        nodes = 60 + rng.below(1 + rng.below(450))
-        lines.append(random_chain(rng, busy(rng, width, nodes, [other_leaf, some_leaf][turn % 3 == 0]), width))
-    for turn in range(40):
-        width = random_width(rng)
-        words = quiet(rng, width, 60 + rng.below(240))
-        for _ in range(2 + rng.below(6)):
-            words = put_in(rng, words, some_site(rng, width, 1 + rng.below(24)))
-        lines.append(random_chain(rng, words, width))
-    return lines
+def large_trees(rng, count, few):
+    """From 60 nodes to 512; and a few with up to seven sites."""
+    lines = at_random(rng, count, lambda width, turn: busy(rng, width, 60 + rng.below(1 + rng.below(450)),
+                                                           [other_leaf, some_leaf][turn % 3 == 0]))
+    return lines + at_random(rng, few, lambda width, _: with_some_sites(rng, quiet(rng, width, 60 + rng.below(240)), width,
+                                                                        2 + rng.below(6), 24))
 
 
 def gone_down_in_512(rng, count, levels, make):
@@ -326,17 +312,35 @@ def two_refusals():
     return lines + [chain(words, width, size, [9]) for width in (0, 65, BIG - 1) for words in lists for size in (1100, 0)]
 
 
-def damaged_trees(rng):
+def random_sizes(rng, count):
+    """Words lent around the least, widths that are none, and lists with another width."""
     lines = []
-    for _ in range(330):
+    for _ in range(count):
+        words = busy(rng, 8, 1 + rng.below(9))
+        size = max(0, room(words) + rng.pick([-2, -1, -1, 0, 1, 2, -len(words)]))
+        lines.append(chain(words, rng.pick([8, 8, 8, 8, 1, 64, 0, 65, BIG - 1]), size, [8] * rng.below(3) + [9] * (rng.below(4) == 0)))
+    return lines
+
+
+def damaged_trees(rng, count):
+    lines = []
+    for _ in range(count):
         words = damaged(rng, busy(rng, 8, 1 + rng.below(16)))
         lines.append(chain(words, random_width(rng), rng.pick([1100, 400, 40, 3]), [rng.pick([8, 16])] * rng.pick([0, 0, 1, 2])))
     return lines
 
 
 def requests(random):
-    return (worked() + small_trees() + two_parts() + each_width() + small_and_busy(random(100)) + to_40_nodes(random(101))
-            + sites_put_in(random(102)) + each_form(random(103)) + gathered(random(104)) + met_again(random(105)) + made_equal(random(106))
-            + nots_of_one_level() + nots_above(random(107)) + hard(random(108)) + large_trees(random(109)) + full_trees(random(110))
+    return (worked() + small_trees() + two_parts() + each_width() + small_and_busy(random(100), 3600)
+            + to_40_nodes(random(101), 2200) + sites_put_in(random(102), 520) + each_form(random(103), 6) + gathered(random(104), 420)
+            + met_again(random(105)) + made_equal(random(106), 360) + nots_of_one_level() + nots_above(random(107), 500)
+            + hard(random(108)) + large_trees(random(109), 170, 40) + full_trees(random(110))
             + deep_trees(random(111)) + largest() + sizes() + repeated()
-            + widths() + no_trees() + of_one_width() + two_refusals() + damaged_trees(random(113)))
+            + widths() + no_trees() + of_one_width() + two_refusals() + damaged_trees(random(113), 330))
+
+
+def further(rng, size):
+    """For long runs: other trees at each seed, of at most so many bytes."""
+    return rounds(size, lambda: small_and_busy(rng, 400) + to_40_nodes(rng, 60) + sites_put_in(rng, 60) + each_form(rng, 1)
+                  + gathered(rng, 60) + made_equal(rng, 60) + nots_above(rng, 60) + large_trees(rng, 2, 1) + random_sizes(rng, 60)
+                  + damaged_trees(rng, 60) + [chain(about_64_levels(rng), 8) for _ in range(3)])

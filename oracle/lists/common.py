@@ -1,4 +1,6 @@
 """Numbers, and the text of a request."""
+import random
+from functools import partial
 
 BIG = 1 << 32  # the first number over 32 bits
 MAX = (1 << 64) - 1
@@ -30,9 +32,40 @@ class Random:
         return self.word() >> self.below(64)
 
 
+class Quick(Random):
+    """For long runs, which are not stored: many times as fast."""
+
+    def __init__(self, seed):
+        own = random.Random(seed)
+        self.word = partial(own.getrandbits, 64)
+        self.part = own.random
+
+    def below(self, bound):
+        return int(self.part() * bound)
+
+    def pick(self, items):
+        return items[int(self.part() * len(items))]
+
+
+def listed(numbers):
+    """A space before each."""
+    return " %x" * len(numbers) % tuple(numbers)
+
+
 def request(name, *lists):
     """A name and its lists, with ` /` before each but the first."""
-    return name + " /".join("".join(f" {n:x}" for n in numbers) for numbers in lists)
+    return name + " /".join(map(listed, lists))
+
+
+def rounds(size, more):
+    """What `more` makes again and again, at most so many bytes of it."""
+    lines = []
+    while True:
+        made = more()
+        size -= sum(map(len, made)) + len(made)
+        if size < 0:
+            return lines
+        lines += made
 
 
 def calls(names, words):

@@ -1,7 +1,7 @@
 """Requests to expr_cost.rs."""
 from .build import (ADD, BINARY, CONSTANT, LEAVES, NOT, UNARY, VARIABLE, WITH_NUMBER, any_leaf, balanced, constant, over,
                     random_tree, some_size, some_tree, variable, with_one_variable)
-from .common import BIG, request
+from .common import BIG, request, rounds
 
 MUL = [3, 0]
 EDGES = [0, 1, 2, 0x7FFFFFFF, 0x80000000, BIG - 2, BIG - 1]
@@ -46,11 +46,11 @@ def with_products(rng, nodes):
     return [kind, 0] + with_products(rng, left) + with_products(rng, nodes - 1 - left)
 
 
-def random_costs(rng):
-    trees = [with_products(rng, some_size(rng, 70)) for _ in range(500)]
-    trees += [some_tree(rng, some_size(rng, 50)) for _ in range(250)]
-    trees += [with_one_variable(rng, 1 + rng.below(20)) for _ in range(60)]
-    trees += [products([rng.pick([constant, variable])(rng) for _ in range(1 + rng.below(24))]) for _ in range(60)]
+def random_costs(rng, many, some, few):
+    trees = [with_products(rng, some_size(rng, 70)) for _ in range(many)]
+    trees += [some_tree(rng, some_size(rng, 50)) for _ in range(some)]
+    trees += [with_one_variable(rng, 1 + rng.below(20)) for _ in range(few)]
+    trees += [products([rng.pick([constant, variable])(rng) for _ in range(1 + rng.below(24))]) for _ in range(few)]
     return [cost(words) for words in trees]
 
 
@@ -88,14 +88,19 @@ def edge_orders():
     return lines
 
 
-def random_orders(rng):
+def random_orders(rng, count):
     lines = []
-    for _ in range(200):
+    for _ in range(count):
         most = rng.pick([2, 3, 1 << 16, BIG])
         lines.append(better([rng.below(most) for _ in range(3)], [rng.below(most) for _ in range(3)]))
     return lines
 
 
 def requests(random):
-    return (known_costs() + random_costs(random(30)) + largest(random(31))
-            + all_orders() + edge_orders() + random_orders(random(32)))
+    return (known_costs() + random_costs(random(30), 500, 250, 60) + largest(random(31))
+            + all_orders() + edge_orders() + random_orders(random(32), 200))
+
+
+def further(rng, size):
+    """For long runs: other costs at each seed, of at most so many bytes."""
+    return rounds(size, lambda: random_costs(rng, 100, 50, 12) + random_orders(rng, 200))

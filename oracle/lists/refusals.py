@@ -1,7 +1,8 @@
 """Every refusal of the calls on widths, costs and values, and the order between each two."""
 from .build import (ADD, BAD_KIND, BAD_KINDS, BAD_OPERAND, CONSTANT, NOT, VARIABLE, balanced, damaged, left_chain, nots, over,
                     right_chain, some_size, some_tree)
-from .common import BIG, MAX, request
+from .common import BIG, MAX, request, rounds
+from .sites import about_64_levels
 from .trees import FEW_WORDS, with_two_refusals
 from .typed import CONCAT, Place, some_place, spoiled, typed
 
@@ -37,12 +38,12 @@ def no_trees():
     return ask_all(FEW_WORDS + lists + deep + many + with_two_refusals())
 
 
-def damaged_trees(rng):
+def damaged_trees(rng, count, typed_count):
     lines = []
-    for turn in range(260):
+    for turn in range(count):
         words = damaged(rng, some_tree(rng, some_size(rng, 30)))
         lines += ask_all([words], [NEW_CALLS[turn % 7], NEW_CALLS[(turn + 3) % 7]])
-    for _ in range(100):
+    for _ in range(typed_count):
         place = some_place(rng, True)
         words = damaged(rng, spoiled(rng, typed(rng, some_size(rng, 20), 1 + rng.below(64), place), place))
         lines += ask_all([words], [rng.pick(WIDTH_CALLS), "validate_widths"], place)
@@ -108,4 +109,9 @@ def two_refusals():
 
 
 def requests(random):
-    return (no_trees() + damaged_trees(random(50)) + before_width_rules() + of_one_width() + width_first() + two_refusals())
+    return (no_trees() + damaged_trees(random(50), 260, 100) + before_width_rules() + of_one_width() + width_first() + two_refusals())
+
+
+def further(rng, size):
+    """For long runs: other trees at each seed, of at most so many bytes. Few of the values are left to the solvers."""
+    return rounds(size, lambda: damaged_trees(rng, 140, 60) + ask_all([about_64_levels(rng), about_64_levels(rng)]))

@@ -1,10 +1,10 @@
 """Requests to atom_simplifier.rs."""
-from .build import (BAD_KIND, BAD_KINDS, BAD_OPERAND, CONSTANT, VARIABLE, any_leaf, balanced, damaged, left_chain, nots, over,
+from .build import (BAD_KIND, BAD_KINDS, BAD_OPERAND, CONSTANT, VARIABLE, all_trees, any_leaf, balanced, damaged, left_chain, nots, over,
                     random_tree, right_chain, some_size, some_tree)
-from .common import BIG, MAX, request
+from .common import BIG, MAX, request, rounds
 from .refusals import broken
-from .sites import (ADD, AND, BITWISE, NEG, NOT, OR, X, XOR, Y, Z, above, closed, comb, near, ones, put_in, quiet, site_forms,
-                    some_site)
+from .sites import (ADD, AND, BITWISE, NEG, NOT, OR, X, XOR, Y, Z, about_64_levels, above, closed, comb, near, ones, put_in, quiet,
+                    site_forms, some_site)
 from .trees import FEW_WORDS, with_two_refusals
 from .typed import some_place, typed
 
@@ -42,13 +42,7 @@ def leaves(width):
 
 
 def grown(width, most):
-    """All trees of the kinds below, by their number of nodes."""
-    trees = {1: leaves(width)}
-    for size in range(2, most + 1):
-        trees[size] = [kind + child for kind in (NOT, SHR0, SHR1, NEG) for child in trees[size - 1]]
-        for left in range(1, size - 1):
-            trees[size] += [kind + a + b for kind in (AND, OR, XOR, ADD) for a in trees[left] for b in trees[size - 1 - left]]
-    return trees
+    return all_trees(leaves(width), (NOT, SHR0, SHR1, NEG), (AND, OR, XOR, ADD), most)
 
 
 def small_trees():
@@ -98,10 +92,10 @@ def pairs():
     return lines
 
 
-def nested_chains(rng):
+def nested_chains(rng, count):
     """Three to nine bitwise nodes with a constant each, of one operator or with another one among them."""
     lines = []
-    for turn in range(420):
+    for turn in range(count):
         width = rng.pick(WIDTHS + [64, 1 + rng.below(64)])
         kind = rng.pick(BITWISE)
         words = rng.pick([X, NOT + X, [0, rng.any_size()], OR + X + Y, AND + X + Y, XOR + X + Y, NEG + Y])
@@ -152,31 +146,37 @@ def random_width(rng):
     return rng.pick([1, 8, 32, 64]) if rng.below(3) == 0 else 1 + rng.below(64)
 
 
-def without_site(rng):
+def with_some_sites(rng, words, width, count, most):
+    """So many sites of up to so many nodes put into a tree."""
+    for _ in range(count):
+        words = put_in(rng, words, some_site(rng, width, 1 + rng.below(most)))
+    return words
+
+
+def without_site(rng, count):
     lines = []
-    for turn in range(330):
+    for turn in range(count):
         width = random_width(rng)
         words = quiet(rng, width, some_size(rng, 60), turn % 4 == 0)
         lines += [site(words, width, random_room(rng, words))] + ([local(words, width)] if turn % 2 else [])
     return lines
 
 
-def with_sites(rng):
+def with_sites(rng, count):
     """One site to three, most of them deep inside."""
     lines = []
-    for turn in range(900):
+    for turn in range(count):
         width = random_width(rng)
         words = quiet(rng, width, some_size(rng, 40), turn % 5 == 0)
-        for _ in range(1 + (turn % 3 == 0) + rng.below(2)):
-            words = put_in(rng, words, some_site(rng, width, 1 + rng.below(16)))
+        words = with_some_sites(rng, words, width, 1 + (turn % 3 == 0) + rng.below(2), 16)
         lines += [site(words, width, random_room(rng, words))] + ([local(words, width)] if turn % 6 == 0 else [])
     return lines
 
 
-def each_form(rng):
+def each_form(rng, turns):
     """The forms of a site over larger trees, and the same with one operand changed a little."""
     lines = []
-    for turn in range(9):
+    for turn in range(turns):
         width = random_width(rng)
         a, b = quiet(rng, width, 2 + rng.below(9)), quiet(rng, width, 1 + rng.below(9))
         forms = site_forms(width, a, b, [0, rng.any_size()])
@@ -192,9 +192,9 @@ def near_forms(t, u, b):
             AND + t + OR + u + b, AND + OR + b + t + u, OR + t + AND + b + u, OR + AND + t + b + u]
 
 
-def equal_and_near(rng):
+def equal_and_near(rng, count):
     lines = []
-    for turn in range(330):
+    for turn in range(count):
         width = random_width(rng)
         t = closed(rng, width, 2 + rng.below(30), False)
         u = near(rng, t, width) if turn % 3 else t
@@ -203,17 +203,22 @@ def equal_and_near(rng):
     return lines
 
 
-def any_trees(rng):
+def any_trees(rng, count, well_typed):
     """All kinds at random, casts and Concat too; and trees that the width rules accept, with a site put in."""
     lines = []
-    for _ in range(700):
+    for _ in range(count):
         words = random_tree(rng, some_size(rng, 60), any_leaf)
         lines.append(rng.pick([local, site])(words, random_width(rng), random_room(rng, words)))
-    for _ in range(250):
+    for _ in range(well_typed):
         place = some_place(rng, False)
         words = typed(rng, some_size(rng, 40), 1 + rng.below(64), place)
         words = put_in(rng, words, some_site(rng, place.default, 8))
         lines.append(site(words, place.default, random_room(rng, words)))
+    return lines
+
+
+def over_casts():
+    lines = []
     for cast in ([10, 16], [11, 16], [12, 4]):
         for t in (cast + X, cast + AND + X + X, [13, 0] + X + Y, [13, 0] + cast + X + NOT + X):
             for words in (AND + t + t, OR + t + NOT + t, NOT + t, NOT + AND + NOT + t + X, XOR + t + CONSTANT, cast + t, XOR + t + t):
@@ -250,14 +255,13 @@ def full_trees(rng):
     return lines
 
 
-def large_trees(rng):
+def large_trees(rng, count):
     """From 60 nodes to 300, with none to three sites."""
     lines = []
-    for turn in range(100):
+    for turn in range(count):
         width = random_width(rng)
         words = quiet(rng, width, 60 + rng.below(1 + rng.below(240)), turn % 5 == 0)
-        for _ in range(turn % 4):
-            words = put_in(rng, words, some_site(rng, width, 1 + rng.below(40)))
+        words = with_some_sites(rng, words, width, turn % 4, 40)
         lines.append(site(words, width, random_room(rng, words)))
     return lines
 
@@ -347,17 +351,35 @@ def no_trees():
     return lines
 
 
-def damaged_trees(rng):
+def random_sizes(rng, count):
+    """Places lent around the least, and widths that are none."""
     lines = []
-    for turn in range(260):
+    for turn in range(count):
+        words = with_some_sites(rng, quiet(rng, 8, 1 + rng.below(9)), 8, turn % 2, 8)
+        width = rng.pick([8, 8, 8, 1, 64, 0, 65, BIG - 1])
+        size = max(0, room(words) + rng.pick([-2, -1, -1, 0, 1, 2, -len(words)]))
+        lines += [local(words, width, size), site(words, width, size, rng.pick([0, PATH - 1, PATH, PATH, PATH + 1, 100]))]
+    return lines
+
+
+def damaged_trees(rng, count):
+    lines = []
+    for turn in range(count):
         words = damaged(rng, put_in(rng, some_tree(rng, some_size(rng, 20)), AND + X + X))
         lines.append([local, site][turn % 2](words, random_width(rng), rng.pick([1100, room(words), 3])))
     return lines
 
 
 def requests(random):
-    return (worked() + small_trees() + chains() + pairs() + nested_chains(random(60)) + met_again(random(71))
-            + without_rule() + without_site(random(61)) + with_sites(random(62)) + each_form(random(63))
-            + equal_and_near(random(64)) + any_trees(random(65))
-            + full_trees(random(66)) + large_trees(random(67)) + deep_trees(random(68)) + repeated()
-            + sizes(random(69)) + widths() + no_trees() + damaged_trees(random(70)))
+    return (worked() + small_trees() + chains() + pairs() + nested_chains(random(60), 420) + met_again(random(71))
+            + without_rule() + without_site(random(61), 330) + with_sites(random(62), 900) + each_form(random(63), 9)
+            + equal_and_near(random(64), 330) + any_trees(random(65), 700, 250) + over_casts()
+            + full_trees(random(66)) + large_trees(random(67), 100) + deep_trees(random(68)) + repeated()
+            + sizes(random(69)) + widths() + no_trees() + damaged_trees(random(70), 260))
+
+
+def further(rng, size):
+    """For long runs: other trees at each seed, of at most so many bytes."""
+    return rounds(size, lambda: nested_chains(rng, 150) + without_site(rng, 60) + with_sites(rng, 200) + each_form(rng, 2)
+                  + equal_and_near(rng, 100) + any_trees(rng, 150, 40) + large_trees(rng, 2) + random_sizes(rng, 60)
+                  + damaged_trees(rng, 60) + both(about_64_levels(rng), 8) + both(about_64_levels(rng), 8))

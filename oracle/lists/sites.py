@@ -18,17 +18,17 @@ def above(width, word):
 
 def spans(words):
     """For each node of a tree the place of its first word and of the first behind its subtree, in word order."""
-    ends = {}
-
-    def pass_over(at):
-        end = at + 2
-        for _ in range(2 if words[at] in (2, 3, 4, 5, 6, 13) else 1 if words[at] > 6 else 0):
-            end = pass_over(end)
-        ends[at] = end
-        return end
-
-    pass_over(0)
-    return sorted(ends.items())
+    found = []
+    ends = []  # of the subtrees behind the node that no node has as a child, the next one last
+    for at in range(len(words) - 2, -1, -2):
+        kind = words[at]
+        if kind < 2:
+            ends.append(at + 2)
+        elif kind < 7 or kind == 13:
+            ends.pop()  # its end is the right child's
+        found.append((at, ends[-1]))
+    found.reverse()
+    return found
 
 
 # Without a site
@@ -139,3 +139,8 @@ def comb(rng, levels, end):
         side = rng.below(3)
         words = [NEG + words, ADD + words + X, ADD + Y + words][side]
     return words
+
+
+def about_64_levels(rng):
+    """A chain of 60 levels to 68."""
+    return comb(rng, 58 + rng.below(9), AND + X + X)

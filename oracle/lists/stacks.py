@@ -1,5 +1,6 @@
 """Trees in which one rewrite makes the next, and the room that all rewrites of a tree take."""
-from .sites import ADD, AND, MUL, NEG, NOT, OR, X, XOR, Y, Z, above, closed, ones, spans
+from .build import children
+from .sites import ADD, AND, MUL, NEG, NOT, OR, X, XOR, Y, Z, above, closed, ones
 
 SHR0, SHR1 = [9, 0], [9, 1]
 MOST_WORK = 26240  # words that the test program can lend
@@ -8,13 +9,12 @@ MOST_WORK = 26240  # words that the test program can lend
 def pairs(words):
     """D: the pairs of an And or Or node and a Not above it."""
     found = 0
-    ends = []  # where the subtrees of the Nots around the node end
-    for at, end in spans(words):
-        ends = [other for other in ends if at < other]
-        if words[at] in (4, 5):
-            found += len(ends)
-        if words[at] == 7:
-            ends.append(end)
+    due = [0]  # how many Nots stand above each node that is due, the next one last
+    for kind in words[::2]:
+        above = due.pop()
+        if kind in (4, 5):
+            found += above
+        due += [above + (kind == 7)] * children(kind)
     return found
 
 
@@ -25,10 +25,11 @@ def room(words):
 
 def depth(words):
     most = 0
-    ends = []
-    for at, end in spans(words):
-        ends = [other for other in ends if at < other] + [end]
-        most = max(most, len(ends))
+    due = [1]  # the levels of the nodes that are due, the next one last
+    for kind in words[::2]:
+        level = due.pop()
+        most = max(most, level)
+        due += [level + 1] * children(kind)
     return most
 
 
@@ -61,7 +62,7 @@ def busy(rng, width, nodes, leaf=some_leaf):
     """A tree with many sites, of at most 64 levels."""
     while True:
         words = grown(rng, width, nodes, leaf)
-        if depth(words) <= 64:
+        if nodes <= 64 or depth(words) <= 64:
             return words
 
 

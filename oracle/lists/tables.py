@@ -1,10 +1,10 @@
 """Tables of frames for the report, built without asking what it says of them."""
 from .build import BAD_KIND, BAD_OPERAND, CONSTANT, balanced, damaged, nots
-from .common import BIG, MAX
+from .common import BIG, MAX, rounds
 from .conditions import drawn, negated, several, stack
 from .refusals import CAST, OTHER, broken
 from .rewrites import no_tree_lists, parts, random_width, worked_trees
-from .sites import ADD, AND, BITWISE, NEG, NOT, OR, X, Y, comb, quiet
+from .sites import ADD, AND, BITWISE, NEG, NOT, OR, X, Y, about_64_levels, comb, quiet
 from .stacks import (SHR1, between, busy, depth, going_down, largest_room, leftward, level_by_level, numbered, other_leaf, pairs,
                      pairs_of_2048, room_of_2048, some_leaf)
 from .trees import with_two_refusals
@@ -234,6 +234,17 @@ def stored(random):
     lines = (worked_lines() + at_the_limits() + small_lines(rng, 1500) + middle_lines(rng, 500) + large_lines(rng, 40) + full_lines(rng, 9)
              + turning_lines(rng, 250) + about_2048(rng, 12) + deep_lines(rng) + refused_lines(rng))
     return table(shuffled(rng, lines)) + frame(NOT + AND + NOT + X + Y)
+
+
+def further(rng, size):
+    """For long runs: other lines at each seed, of at most so many bytes, in an order of their own."""
+    refused = refused_lines(rng)
+    short = [line for line in refused if len(line) < 1000]
+    lines = rounds(size, lambda: small_lines(rng, 400) + middle_lines(rng, 60) + turning_lines(rng, 20) + large_lines(rng, 1)
+                   + damaged_lines(rng, 60) + garbled_lines(rng, 60) + [rng.pick(short) for _ in range(60)] + [rng.pick(refused)]
+                   + about_2048(rng, 1) + [frame(about_64_levels(rng))])
+    whole = table(shuffled(rng, lines))
+    return whole if rng.below(2) else whole.removesuffix(b"\n")
 
 
 def many(rng, count):

@@ -2,7 +2,8 @@
 from .build import (ADD, BAD_KIND, BAD_KINDS, BAD_OPERAND, BINARY, CONSTANT, LEAVES, NOT, UNARY, VARIABLE, WITH_NUMBER,
                     any_leaf, balanced, changed, constant, damaged, left_chain, nots, over, random_tree, right_chain, some_size,
                     some_tree, stray_word, with_one_variable)
-from .common import BIG, MAX, calls, request
+from .common import BIG, MAX, calls, request, rounds
+from .sites import about_64_levels
 
 VAR_CALLS = ["is_constant_subtree", "has_var_dep"]
 SHAPE_CALLS = ["check_tree", "span"]
@@ -17,6 +18,10 @@ def arities():
     return [request("arity_of", [kind]) for kind in list(range(21)) + BAD_KINDS + [BIG + 13]]
 
 
+def random_trees(rng, count, names):
+    return [line for _ in range(count) for line in calls(names, some_tree(rng, some_size(rng, 60)))]
+
+
 def valid_trees(rng):
     lines = []
     for kind in LEAVES + BINARY + UNARY:
@@ -26,8 +31,7 @@ def valid_trees(rng):
         lines += calls(VAR_CALLS, [kind, 0] + CONSTANT + VARIABLE) + calls(VAR_CALLS, [kind, 0] + VARIABLE + CONSTANT)
     for size in range(1, 61):
         lines += calls(VAR_CALLS, random_tree(rng, size, constant)) + calls(VAR_CALLS, with_one_variable(rng, size))
-    for _ in range(960):
-        lines += calls(VAR_CALLS, some_tree(rng, some_size(rng, 60)))
+    lines += random_trees(rng, 960, VAR_CALLS)
     for words in (random_tree(rng, 500, constant), with_one_variable(rng, 505), with_one_variable(rng, 511)):
         lines += calls(VAR_CALLS, words)
     return lines
@@ -183,20 +187,20 @@ def two_refusals():
 
 # Damaged trees
 
-def damaged_trees(rng):
+def damaged_trees(rng, once, twice):
     lines = []
-    for turn in range(760):
+    for turn in range(once + twice):
         words = damaged(rng, some_tree(rng, some_size(rng, 40)))
-        if turn >= 600 and words:
+        if turn >= once and words:
             words = damaged(rng, words)
         lines += calls(TREE_CALLS if turn % 8 == 0 else SHAPE_CALLS, words)
     return lines
 
 
-def rubbish(rng):
+def rubbish(rng, count):
     """Nodes drawn one by one, kinds mostly good."""
     lines = []
-    for _ in range(120):
+    for _ in range(count):
         words = []
         for _ in range(1 + rng.below(14)):
             kind = rng.below(14) if rng.below(12) else stray_word(rng)
@@ -207,12 +211,18 @@ def rubbish(rng):
 
 # Spans
 
-def first_subtrees(rng):
+def before_others(rng, count):
+    """A tree and words behind it."""
     lines = []
-    for _ in range(40):
+    for _ in range(count):
         tree = some_tree(rng, 1 + rng.below(15))
         lines.append(request("span", tree + some_tree(rng, 1 + rng.below(10))))
         lines.append(request("span", tree + [stray_word(rng) for _ in range(2 + 2 * rng.below(4))]))
+    return lines
+
+
+def first_subtrees(rng):
+    lines = before_others(rng, 40)
     for size in (10, 18, 25):
         tree = random_tree(rng, size, any_leaf)
         lines += [request("span", tree[at:]) for at in range(0, len(tree), 2)]
@@ -257,9 +267,9 @@ def known_pairs():
     return [pair(left, right) for left, right in pairs]
 
 
-def random_pairs(rng):
+def random_pairs(rng, count):
     lines = []
-    for _ in range(40):
+    for _ in range(count):
         tree = some_tree(rng, 1 + rng.below(15))
         lines += [pair(tree, tree), pair(tree, some_tree(rng, len(tree) // 2)),
                   pair(tree, changed(tree, rng.below(len(tree)), stray_word(rng)))]
@@ -268,4 +278,11 @@ def random_pairs(rng):
 
 def equal_lists(rng):
     base = [13, 0, 9, 4, 1, 2, 2, 0, 0, MAX, 1, 7]
-    return known_pairs() + changed_at_each_word(base) + other_lengths(base) + random_pairs(rng)
+    return known_pairs() + changed_at_each_word(base) + other_lengths(base) + random_pairs(rng, 40)
+
+
+def further(rng, size):
+    """For long runs: other trees at each seed, of at most so many bytes."""
+    return rounds(size, lambda: random_trees(rng, 100, TREE_CALLS) + damaged_trees(rng, 200, 60) + rubbish(rng, 100) + before_others(rng, 30)
+                  + random_pairs(rng, 30) + [request("arity_of", [stray_word(rng)]) for _ in range(60)]
+                  + calls(TREE_CALLS, about_64_levels(rng)) + calls(TREE_CALLS, about_64_levels(rng)))

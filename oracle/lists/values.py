@@ -1,7 +1,7 @@
 """Requests to the values of trees of one width, and to the check that a tree is one."""
-from .build import ADD, CONSTANT, NOT, balanced, left_chain, right_chain, some_size
-from .common import BIG, EDGES, MAX, request
-from .typed import KEEPING, SAME_WIDTH, uniform
+from .build import ADD, CONSTANT, NOT, balanced, damaged, left_chain, right_chain, some_size
+from .common import BIG, EDGES, MAX, request, rounds
+from .typed import KEEPING, SAME_WIDTH, Place, spoiled, uniform
 
 WIDTHS = [1, 2, 3, 8, 31, 32, 33, 63, 64]
 SHR = 9
@@ -73,10 +73,10 @@ def needed(words):
     return max([words[i + 1] + 1 for i in range(0, len(words), 2) if words[i] == 1], default=0)
 
 
-def random_values(rng):
+def random_values(rng, turns):
     """Settings as long as needed, longer, and one word short; lists that are empty, short, exact and long."""
     lines = []
-    for turn in range(1300):
+    for turn in range(turns):
         width = WIDTHS[turn % 9] if turn % 5 else 1 + rng.below(64)
         words = uniform(rng, some_size(rng, 55), leaf_below(rng.below(5)))
         count = needed(words)
@@ -91,10 +91,10 @@ def random_values(rng):
     return lines
 
 
-def other_widths(rng):
+def other_widths(rng, turns):
     """A list in which one width differs."""
     lines = []
-    for turn in range(160):
+    for turn in range(turns):
         width = rng.pick(WIDTHS)
         words = uniform(rng, some_size(rng, 30), leaf_below(4))
         listed = [width] * (1 + rng.below(5))
@@ -143,5 +143,24 @@ def widths():
 
 
 def requests(random):
-    return (single_leaves() + single_nodes(random(40)) + shifts(random(41)) + random_values(random(42)) + other_widths(random(43))
-            + full_trees(random(44)) + settings() + widths())
+    return (single_leaves() + single_nodes(random(40)) + shifts(random(41)) + random_values(random(42), 1300)
+            + other_widths(random(43), 160) + full_trees(random(44)) + settings() + widths())
+
+
+def random_checks(rng, count):
+    """Trees with and without a cast or a Concat, at any width, with lists that have this width or another one."""
+    lines = []
+    for turn in range(count):
+        width = 1 + rng.below(64) if rng.below(9) else rng.pick([0, 65, BIG - 1])
+        words = uniform(rng, some_size(rng, 40), leaf_below(4))
+        listed = [width] * rng.below(6)
+        if listed and turn % 3 == 0:
+            listed[rng.below(len(listed))] ^= 1
+        words = spoiled(rng, words, Place(listed, 8)) if turn % 5 == 0 else damaged(rng, words) if turn % 5 == 1 else words
+        lines.append(one_width(words, width, listed))
+    return lines
+
+
+def further(rng, size):
+    """For long runs: other trees at each seed, of at most so many bytes. `random_values` is left out: the solvers take their time."""
+    return rounds(size, lambda: random_checks(rng, 400))

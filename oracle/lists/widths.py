@@ -1,6 +1,6 @@
 """Requests to width.rs."""
 from .build import ADD, CONSTANT, NOT, VARIABLE, any_leaf, balanced, nots, random_tree, some_size
-from .common import BIG, request
+from .common import BIG, request, rounds
 from .typed import CASTS, CONCAT, Place, some_cast, some_place, spoiled, typed, uniform
 
 WIDTHS_ASKED = [0, 1, 8, 32, 64, 65, BIG - 1]
@@ -149,10 +149,10 @@ def width_asked(rng, words, place, turn):
     return lines
 
 
-def typed_trees(rng):
+def typed_trees(rng, count):
     """Every third has one place spoiled, every third two or three."""
     lines = []
-    for turn in range(2400):
+    for turn in range(count):
         place = some_place(rng, turn % 4 == 0)
         words = typed(rng, some_size(rng, 60), 1 + rng.below(64), place)
         for _ in range([0, 1, 2 + rng.below(2)][turn % 3]):
@@ -161,18 +161,18 @@ def typed_trees(rng):
     return lines
 
 
-def untyped_trees(rng):
+def untyped_trees(rng, count):
     """Nodes at random: most have many faults."""
     lines = []
-    for turn in range(300):
+    for turn in range(count):
         place = some_place(rng, turn % 2 == 0)
         lines += width_asked(rng, random_tree(rng, 1 + rng.below(20), any_leaf), place, turn)
     return lines
 
 
-def casts_in_chains(rng):
+def casts_in_chains(rng, count):
     lines = []
-    for turn in range(200):
+    for _ in range(count):
         place = some_place(rng, False)
         words = rng.pick(place.leaves())[0]
         for _ in range(1 + rng.below(8)):
@@ -183,16 +183,16 @@ def casts_in_chains(rng):
 
 # One width
 
-def uniform_trees(rng):
+def uniform_trees(rng, count):
     """Lists that are empty, of one width, or with another one among it. Every fourth tree may have a cast or a Concat."""
     lines = []
-    for turn in range(900):
+    for turn in range(count):
         width = rng.pick(WIDTHS_ASKED + [1 + rng.below(64)])
-        count = rng.below(6)
+        entries = rng.below(6)
         words = uniform(rng, some_size(rng, 50), lambda r: [r.below(2), r.below(6)])
-        listed = [width] * count
+        listed = [width] * entries
         if listed and turn % 2:
-            listed[rng.below(count)] = rng.pick([0, 1, 8, 64, 65, width + 1 if width < BIG - 1 else 0])
+            listed[rng.below(entries)] = rng.pick([0, 1, 8, 64, 65, width + 1 if width < BIG - 1 else 0])
         if turn % 4 == 0:
             words = spoiled(rng, words, Place(listed, width))
         lines.append(uniform_asked(words, listed, width))
@@ -246,5 +246,10 @@ def long_lists():
 
 def requests(random):
     return (leaves() + single_nodes() + two_faults() + fault_below() + known_orders() + deep_chains()
-            + typed_trees(random(20)) + untyped_trees(random(21)) + casts_in_chains(random(22)) + uniform_trees(random(23))
-            + full_trees(random(24)) + long_lists())
+            + typed_trees(random(20), 2400) + untyped_trees(random(21), 300) + casts_in_chains(random(22), 200)
+            + uniform_trees(random(23), 900) + full_trees(random(24)) + long_lists())
+
+
+def further(rng, size):
+    """For long runs: other trees at each seed, of at most so many bytes."""
+    return rounds(size, lambda: typed_trees(rng, 240) + untyped_trees(rng, 60) + casts_in_chains(rng, 40) + uniform_trees(rng, 90))

@@ -4,7 +4,7 @@ use crate::core::{arith, expr_utils};
 use crate::fields::{self, hex, narrow};
 use crate::refusal::{self, Refusal};
 use crate::words;
-use crate::{candidate, chain, cost, rewrite, value, width};
+use crate::{candidate, chain, cost, frame, rewrite, value, width};
 
 pub fn answer(request: &str) -> Result<String, String> {
     let mut fields = request.split(' ');
@@ -13,6 +13,11 @@ pub fn answer(request: &str) -> Result<String, String> {
     let lists = fields::lists(&fields)?;
     let lists: Vec<&[u64]> = lists.iter().map(|list| &list[..]).collect();
     match (name, &lists[..]) {
+        (
+            "check_tree_at" | "copy_words" | "number" | "put_digits" | "put_number" | "read_nodes"
+            | "put_nodes" | "end_of" | "keep" | "nodes_in" | "read_frame" | "write_frame",
+            lists,
+        ) => frame::answer(name, lists),
         (_, [numbers]) => of_one_list(name, numbers),
         ("same_words", [left, right]) => Ok(hex(u64::from(same_words(left, right)))),
         ("is_better", [candidate, baseline]) => cost::is_better(candidate, baseline),
@@ -77,7 +82,7 @@ pub fn node_count(tree: &Expr) -> u64 {
         .sum::<u64>()
 }
 
-/// The original compares trees; lists that are none are compared as lists.
+/// The Rust compares trees; lists that are none are compared as lists.
 fn same_words(left: &[u64], right: &[u64]) -> bool {
     match (words::read(left), words::read(right)) {
         (Ok(a), Ok(b)) => a == b,

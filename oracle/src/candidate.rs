@@ -1,13 +1,12 @@
-//! The candidates of a node, answered by the original's atom_identity_rewrite.rs, which hands out all of them and no tags. The tag is told by
+//! The candidates of a node, answered by the Rust's atom_identity_rewrite.rs, which hands out all of them and no tags. The tag is told by
 //! the matcher that a candidate comes from. Numbers, refusal 9, the words and that all other places are kept are the harness's.
 use crate::answer::node_count;
 use crate::core::expr::Expr;
 use crate::fields::narrow;
 use crate::passes::atom_identity_rewrite::access;
 use crate::refusal::{self, plain, Refusal};
-use crate::rewrite::{listed, MOST_OUT};
+use crate::rewrite::{listed, repeated, MOST_OUT};
 use crate::words;
-use std::hint::black_box;
 use std::sync::Arc;
 
 /// The width, the number and the lent words of a call, and how often it is made.
@@ -44,9 +43,7 @@ fn candidate(call: &Call, words: &[u64]) -> Result<String, String> {
     Ok(match accepted(call, words) {
         Err(r) => format!("{} / kept", refusal::text(r)),
         Ok(tree) => {
-            for _ in 1..call.times {
-                black_box(access::candidates(black_box(&tree), black_box(call.width)));
-            }
+            repeated(call.times - 1, &tree, call.width, access::candidates);
             let all = tagged(&tree, call.width)?;
             match usize::try_from(call.number).ok().and_then(|n| all.get(n)) {
                 None => format!("none {:x} / kept", all.len()),
@@ -58,17 +55,14 @@ fn candidate(call: &Call, words: &[u64]) -> Result<String, String> {
 
 /// The tree, or the first refusal of 1, 2 to 7, 9.
 fn accepted(call: &Call, words: &[u64]) -> Result<Arc<Expr>, Refusal> {
-    if !(1..=64).contains(&call.width) {
-        return Err(plain(1));
-    }
-    let tree = words::read(words)?;
+    let tree = words::read_at(words, call.width)?;
     if call.out < 2 * node_count(&tree) {
         return Err(plain(9));
     }
     Ok(tree)
 }
 
-/// All candidates with their tags: what the single matchers give must be what the original's own list has.
+/// All candidates with their tags: what the single matchers give must be what the Rust's own list has.
 fn tagged(tree: &Expr, width: u32) -> Result<Vec<(u64, Arc<Expr>)>, String> {
     let all = access::tagged(tree, width);
     let own = access::candidates(tree, width);

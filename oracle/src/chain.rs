@@ -1,5 +1,5 @@
-//! The chain. The original's own loop over first sites makes certificates by files that were not published: the harness makes document 01's
-//! list of trees from the original's first site and its replacement. Refusal 9, the words and the zeros behind them are the harness's.
+//! The chain. The Rust's own loop over first sites makes certificates by files that were not published: the harness makes document 01's
+//! list of trees from the Rust's first site and its replacement. Refusal 9, the words and the zeros behind them are the harness's.
 use crate::answer::node_count;
 use crate::core::expr::{Expr, Kind};
 use crate::fields::narrow;
@@ -73,7 +73,7 @@ fn whole(call: &Call, widths: &[u32], words: &[u64], _: &Arc<Expr>) {
     }
 }
 
-/// The original's functions on a tree that is built and checked.
+/// The Rust's functions on a tree that is built and checked.
 fn loop_alone(call: &Call, _: &[u32], _: &[u64], tree: &Arc<Expr>) {
     black_box(end_of(tree, call.width));
 }

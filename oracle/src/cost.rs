@@ -1,4 +1,4 @@
-//! The cost calls, answered by the original's expr_cost.rs.
+//! The cost calls, answered by the Rust's expr_cost.rs.
 use crate::core::expr_cost::{self, ExprCost};
 use crate::fields::{hex, narrow};
 use crate::{refusal, words};

@@ -1,4 +1,5 @@
 //! The fields of a request: lists of numbers with `/` between them.
+use std::fmt::{LowerHex, Write};
 
 /// The lists; an error where one has something that is no number.
 pub fn lists(fields: &[&str]) -> Result<Vec<Vec<u64>>, String> {
@@ -27,4 +28,13 @@ pub fn all_narrow(numbers: &[u64]) -> Result<Vec<u32>, String> {
 
 pub fn hex(n: u64) -> String {
     format!("{n:x}")
+}
+
+/// The numbers with a space before each.
+pub fn listed<T: LowerHex>(numbers: &[T]) -> String {
+    let mut text = String::new();
+    for n in numbers {
+        write!(text, " {n:x}").expect("a String takes every write");
+    }
+    text
 }

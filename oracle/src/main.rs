@@ -3,7 +3,7 @@ use std::env;
 use std::io::{self, BufWriter, Write};
 use std::process::ExitCode;
 
-/// The original Rust, which seeks itself under `crate::core` and `crate::passes`.
+/// The Rust that is ported, which seeks itself under `crate::core` and `crate::passes`.
 #[allow(dead_code)]
 mod core {
     include!(concat!(env!("OUT_DIR"), "/core.rs"));
@@ -12,7 +12,7 @@ mod core {
 mod passes {
     include!(concat!(env!("OUT_DIR"), "/passes.rs"));
 }
-/// What the original names and no request reaches.
+/// What the Rust names and no request reaches.
 #[allow(dead_code)]
 #[path = "stubs"]
 mod ir {
@@ -27,6 +27,7 @@ mod candidate;
 mod chain;
 mod cost;
 mod fields;
+mod frame;
 mod refusal;
 mod report;
 mod rewrite;

@@ -23,7 +23,7 @@ pub const fn plain(number: u32) -> Refusal {
     }
 }
 
-/// Refusals 10 to 13 are errors of the original, which tells their numbers in its text alone. Any other error is no answer.
+/// Refusals 10 to 13 are errors of the Rust, which tells their numbers in its text alone. Any other error is no answer.
 pub fn of_error(error: &ErrorInfo) -> Result<Refusal, String> {
     if error.code != CobraError::InvalidArgument {
         return Err(format!("unknown error: {error}"));

@@ -1,21 +1,14 @@
-//! Document 01's report: a frame a line, and what the chain makes of it. Lines, frames, refusal 14 and the text are the harness's.
+//! Document 01's report: a frame a line, and what the chain makes of it. Lines, frames (`frame.rs`) and the text are the harness's.
 use crate::answer::node_count;
 use crate::chain;
 use crate::core::expr::{Expr, Kind};
-use crate::refusal::{plain, Refusal};
-use crate::words;
-use std::fmt::Write as _;
+use crate::frame;
+use crate::refusal::Refusal;
 use std::io::{self, BufWriter, Read, Write};
 
 const MOST_LINES: usize = 65_535;
-const MOST_NODES: usize = 512;
 /// 2,048 nodes, in words.
 const WORK: u64 = 4096;
-
-/// The digits of a frame's width, of a node and of its kind.
-const WIDTH: usize = 2;
-const NODE: usize = 18;
-const KIND: usize = 2;
 
 /// What is told of an accepted line.
 struct Row {
@@ -75,14 +68,14 @@ fn write(input: &[u8], out: &mut impl Write) -> io::Result<()> {
 
 /// A line without its 0a.
 fn row(line: &[u8]) -> Result<Row, Refusal> {
-    let (width, words) = read(line).ok_or(plain(14))?;
+    let (width, words) = frame::read(line)?;
     let (tree, end, rewrites) = chain::run(width, WORK, &[], &words)?;
     Ok(Row {
         before: words.len() as u64 / 2,
         after: node_count(&end),
         rewrites,
         conditions: conditions(&tree),
-        end: frame(width, &end),
+        end: frame::text(width, &end),
     })
 }
 
@@ -94,45 +87,4 @@ fn conditions(tree: &Expr) -> u64 {
     };
     let below = tree.children.iter().map(|child| conditions(child));
     below.fold(own, u64::max)
-}
-
-/// The width and the words of a line that has the form of a frame.
-fn read(line: &[u8]) -> Option<(u32, Vec<u64>)> {
-    let digits = line.len().checked_sub(WIDTH)?;
-    if digits % NODE != 0 || digits == 0 || digits > MOST_NODES * NODE {
-        return None;
-    }
-    let (width, nodes) = line.split_at(WIDTH);
-    let mut words = Vec::with_capacity(2 * nodes.len() / NODE);
-    for node in nodes.chunks(NODE) {
-        let (kind, operand) = node.split_at(KIND);
-        words.extend([number(kind)?, number(operand)?]);
-    }
-    Some((u32::try_from(number(width)?).ok()?, words))
-}
-
-fn number(digits: &[u8]) -> Option<u64> {
-    digits.iter().try_fold(0, |n, &byte| {
-        let digit = match byte {
-            b'0'..=b'9' => byte - b'0',
-            b'a'..=b'f' => byte - b'a' + 10,
-            _ => return None,
-        };
-        Some(n << 4 | u64::from(digit))
-    })
-}
-
-/// The frame of a tree, without its 0a.
-fn frame(width: u32, tree: &Expr) -> String {
-    let mut text = format!("{width:02x}");
-    add_nodes(tree, &mut text);
-    text
-}
-
-fn add_nodes(tree: &Expr, text: &mut String) {
-    let (kind, operand) = words::words_of(&tree.kind);
-    write!(text, "{kind:02x}{operand:016x}").expect("a String takes every write");
-    for child in &tree.children {
-        add_nodes(child, text);
-    }
 }

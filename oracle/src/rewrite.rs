@@ -1,8 +1,8 @@
-//! The rewrites, answered by the original's atom_simplifier.rs. The original writes into no lent places: refusal 9, the words of a
+//! The rewrites, answered by the Rust's atom_simplifier.rs. The Rust writes into no lent places: refusal 9, the words of a
 //! replacement and that all other places are kept are the harness's.
 use crate::answer::node_count;
 use crate::core::expr::Expr;
-use crate::fields::narrow;
+use crate::fields::{self, narrow};
 use crate::passes::atom_simplifier::access;
 use crate::refusal::{self, plain, Refusal};
 use crate::words;
@@ -48,7 +48,7 @@ fn read_call(width: u64, out: u64, path: u64, times: u64) -> Result<Call, String
 fn local(call: &Call, words: &[u64]) -> Result<String, String> {
     Ok(match accepted(call, words) {
         Err(r) => format!("{} / kept", refusal::text(r)),
-        Ok(tree) => match repeated(call, &tree, access::local) {
+        Ok(tree) => match last(call, &tree, access::local) {
             None => "none / kept".to_string(),
             Some(after) => format!("{:x} /{} / kept", node_count(&after), listed(&after)),
         },
@@ -58,43 +58,42 @@ fn local(call: &Call, words: &[u64]) -> Result<String, String> {
 fn site(call: &Call, words: &[u64]) -> Result<String, String> {
     Ok(match accepted(call, words) {
         Err(r) => format!("{} / kept kept", refusal::text(r)),
-        Ok(tree) => match repeated(call, &tree, access::first_site) {
+        Ok(tree) => match last(call, &tree, access::first_site) {
             None => "none / kept kept".to_string(),
-            Some((path, after)) => {
-                let bytes: String = path.iter().map(|byte| format!(" {byte:x}")).collect();
-                format!(
-                    "{:x} {:x} /{bytes} /{} / kept kept",
-                    path.len(),
-                    node_count(&after),
-                    listed(&after)
-                )
-            }
+            Some((path, after)) => format!(
+                "{:x} {:x} /{} /{} / kept kept",
+                path.len(),
+                node_count(&after),
+                fields::listed(&path),
+                listed(&after)
+            ),
         },
     })
 }
 
 /// The tree, or the first refusal of 1, 2 to 7, 9.
 fn accepted(call: &Call, words: &[u64]) -> Result<Arc<Expr>, Refusal> {
-    if !(1..=64).contains(&call.width) {
-        return Err(plain(1));
-    }
-    let tree = words::read(words)?;
+    let tree = words::read_at(words, call.width)?;
     if call.out < 2 * (node_count(&tree) + 1) || call.path < PATH_DUE {
         return Err(plain(9));
     }
     Ok(tree)
 }
 
-/// The answer of the last call; `black_box` keeps the others from being left out.
-fn repeated<T>(call: &Call, tree: &Expr, rewrite: fn(&Expr, u32) -> T) -> T {
-    for _ in 1..call.times {
-        black_box(rewrite(black_box(tree), black_box(call.width)));
+/// Makes a call so many times, for measuring; `black_box` keeps it from being left out.
+pub fn repeated<T>(times: u32, tree: &Expr, width: u32, asked: fn(&Expr, u32) -> T) {
+    for _ in 0..times {
+        black_box(asked(black_box(tree), black_box(width)));
     }
+}
+
+/// The answer of the last call.
+fn last<T>(call: &Call, tree: &Expr, rewrite: fn(&Expr, u32) -> T) -> T {
+    repeated(call.times - 1, tree, call.width, rewrite);
     rewrite(tree, call.width)
 }
 
 /// The words of a tree, with a space before each.
 pub fn listed(tree: &Expr) -> String {
-    let words = words::write(tree);
-    words.iter().map(|word| format!(" {word:x}")).collect()
+    fields::listed(&words::write(tree))
 }

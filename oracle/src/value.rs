@@ -1,5 +1,5 @@
-//! The calls on trees of one width. The original's evaluator cannot be compiled without a file that was not published, so a value is
-//! left to the solvers: this file gives the refusals, of which the original decides 8.
+//! The calls on trees of one width. The Rust's evaluator cannot be compiled without a file that was not published, so a value is
+//! left to the solvers: this file gives the refusals, of which the Rust decides 8.
 use crate::answer::{node_count, text};
 use crate::core::expr::{Expr, Kind};
 use crate::core::width;
@@ -26,10 +26,7 @@ pub fn value(words: &[u64], w: u32, widths: &[u32], setting: &[u64]) -> Result<S
 
 /// The tree, or the first refusal of 1, 2 to 7, 8.
 pub fn one_width(words: &[u64], w: u32, widths: &[u32]) -> Result<Arc<Expr>, Refusal> {
-    if !(1..=64).contains(&w) {
-        return Err(plain(1));
-    }
-    let tree = words::read(words)?;
+    let tree = words::read_at(words, w)?;
     if !width::is_uniform_width(&tree, widths, w) {
         return Err(plain(8));
     }

@@ -1,4 +1,4 @@
-//! The width calls, answered by the original's width.rs.
+//! The width calls, answered by the Rust's width.rs.
 use crate::core::expr::Expr;
 use crate::core::{result, width};
 use crate::fields::hex;

@@ -1,4 +1,4 @@
-//! Trees as word lists, and the refusals of lists that are none. The original knows no words: this file is the harness's own.
+//! Trees as word lists, and the refusals of lists that are none. The Rust knows no words: this file is the harness's own.
 use crate::core::expr::{Expr, Kind};
 use crate::refusal::{plain, Refusal};
 use smallvec::SmallVec;
@@ -8,6 +8,14 @@ const MAX_WORDS: usize = 1024;
 const MAX_DEPTH: usize = 64;
 const MAX_U32: u64 = u32::MAX as u64;
 const LAST_KIND: u64 = 13;
+
+/// `read` for a call at this width: before all others 1, for a width outside 1 to 64.
+pub fn read_at(words: &[u64], width: u32) -> Result<Arc<Expr>, Refusal> {
+    if !(1..=64).contains(&width) {
+        return Err(plain(1));
+    }
+    read(words)
+}
 
 /// The tree that the whole list is, or the first refusal: 2 for the list, one of 6, 3, 4, 5 for a node, 7 for the end.
 pub fn read(words: &[u64]) -> Result<Arc<Expr>, Refusal> {
@@ -34,7 +42,7 @@ fn words_taken(words: &[u64]) -> Result<usize, Refusal> {
     Ok(taken)
 }
 
-/// The number of children of a kind word, which the original tells, or refusal 3.
+/// The number of children of a kind word, which the Rust tells, or refusal 3.
 pub fn arity(kind: u64) -> Result<usize, Refusal> {
     if kind > LAST_KIND {
         return Err(plain(3));
@@ -77,7 +85,7 @@ fn operand_fits(kind: u64, operand: u64) -> bool {
     }
 }
 
-/// The first subtree of words that were checked, and how many it takes; the original tells the number of children.
+/// The first subtree of words that were checked, and how many it takes; the Rust tells the number of children.
 fn build(words: &[u64]) -> (Arc<Expr>, usize) {
     let kind = kind_of(words[0], words[1]);
     let mut children = SmallVec::new();

@@ -51,7 +51,7 @@ fn of_one_list(name: &[u8], list: &[u8]) -> Answer {
     found
 }
 
-// A width, a list of widths, and what else the request has.
+// A width, a width list, and what else the request has.
 fn of_widths(name: &[u8], width: u32, lists: &[u8]) -> Answer {
     let split = text::first_list(lists);
     if !split.more {

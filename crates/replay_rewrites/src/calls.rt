@@ -1,8 +1,8 @@
 // The calls, and what they leave in the places that they are lent.
-use crate::lent_path;
 use atom_simplifier::RewriteAnswer;
 use atom_simplifier::SiteAnswer;
 use requests::lent;
+use requests::lent_bytes;
 use requests::output::put;
 use requests::output::put_field;
 use requests::output::put_hex;
@@ -66,20 +66,20 @@ fn put_found(
     path: &[u8],
     out: &[u64],
 ) -> usize {
-    let steps = lent_path::bytes_of(length, path);
+    let steps = lent::places_of(length, path.len());
     let taken = lent::words_of(nodes, out);
     let counted = put_hex(text, have, length as u64);
     let sized = put_field(text, counted, nodes as u64);
-    let led = lent_path::put_bytes(text, sized, &path[0..steps]);
+    let led = lent_bytes::put_bytes(text, sized, &path[0..steps]);
     let listed = lent::put_words(text, led, &out[0..taken]);
     let parted = put(text, listed, b" /");
-    let way = lent_path::put_bytes_kept(text, parted, path, steps);
+    let way = lent_bytes::put_bytes_kept(text, parted, path, steps);
     lent::put_words_kept(text, way, out, taken)
 }
 
 fn put_both_untouched(text: &mut [u8], have: usize, path: &[u8], out: &[u64]) -> usize {
     let parted = put(text, have, b" /");
-    let way = lent_path::put_bytes_kept(text, parted, path, 0);
+    let way = lent_bytes::put_bytes_kept(text, parted, path, 0);
     lent::put_words_kept(text, way, out, 0)
 }
 
@@ -92,7 +92,7 @@ pub(crate) fn put_site(
     path: &mut [u8],
     out: &mut [u64],
 ) -> usize {
-    lent_path::mark_bytes(path);
+    lent_bytes::mark_bytes(path);
     lent::mark_words(out);
     match site_times(words, width, times, path, out) {
         SiteAnswer::Site(length, nodes) => put_found(text, have, length, nodes, path, out),

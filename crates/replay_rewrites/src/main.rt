@@ -7,7 +7,6 @@ use requests::text::find;
 
 mod answer;
 mod calls;
-mod lent_path;
 
 fn put_line(out: &mut [u8], have: usize, line: &[u8]) -> usize {
     let echoed = put(out, have, line);

@@ -1,4 +1,4 @@
--- Words that get their marks one after the other. Assumes nothing.
+-- Places that get their marks one after the other. Assumes nothing.
 use mathlib.Core.Path.{_≡_, sym, ap, _∙_}
 use mathlib.Core.List.{List}
 use mathlib.Core.Logic.{⊎-elim}
@@ -7,22 +7,23 @@ use native.Mathlib.Nat.{eq-or-lt-of-le, not-suc-le-zero}
 use native.Mathlib.Omega.{arith}
 use lib.ListN.{length, getD, set}
 use lib.Seq.{getD-set-same, getD-set-other}
-use Rattle.requests.specs.Lent.{mark, Marked}
+use Rattle.requests.specs.Lent.{Marked}
 
-pub none-marked : (ws : List ℕ) → Marked ws 0
-none-marked ws = record { each = λ j l. absurd (not-suc-le-zero l) }
+module _ (mark : ℕ → ℕ) (xs : List ℕ) where
+  pub none-marked : Marked mark xs 0
+  none-marked = record { each = λ j l. absurd (not-suc-le-zero l) }
 
-module _ (ws : List ℕ) (i : ℕ) (m : Marked ws i) where
-  pub one-marked : (word : ℕ) → word ≡ mark i → i < length ws → Marked (set ws i word) (i + 1)
-  one-marked word e l = record { each = each }
+module _ (mark : ℕ → ℕ) (xs : List ℕ) (i : ℕ) (m : Marked mark xs i) where
+  pub one-marked : (x : ℕ) → x ≡ mark i → i < length xs → Marked mark (set xs i x) (i + 1)
+  one-marked x e l = record { each = each }
     where
-      each : (j : ℕ) → j < i + 1 → getD (set ws i word) j 0 ≡ mark j
+      each : (j : ℕ) → j < i + 1 → getD (set xs i x) j 0 ≡ mark j
       each j k =
-          ⊎-elim (λ (q : j ≡ i). ap (λ (n : ℕ). getD (set ws i word) n 0) q ∙ getD-set-same ws i word 0 l ∙ e ∙ ap mark (sym q))
-          (λ (q : j < i). getD-set-other ws i j word 0 (λ f. absurd (omega (arith, f))) ∙ m .each j q)
+          ⊎-elim (λ (q : j ≡ i). ap (λ (n : ℕ). getD (set xs i x) n 0) q ∙ getD-set-same xs i x 0 l ∙ e ∙ ap mark (sym q))
+          (λ (q : j < i). getD-set-other xs i j x 0 (λ f. absurd (omega (arith, f))) ∙ m .each j q)
           (eq-or-lt-of-le (let h : j ≤ i = omega arith in h))
 
-  pub all-marked : (before : List ℕ) → length ws ≡ length before → length ws ≤ i → Marked ws (length before)
+  pub all-marked : (before : List ℕ) → length xs ≡ length before → length xs ≤ i → Marked mark xs (length before)
   all-marked before e h = record { each = λ j l. m .each j (omega (arith, e)) }
 
 pub ruleset marking = (none-marked, one-marked, all-marked)

@@ -2,19 +2,19 @@
 ghost use mathlib.Core.Path.{_≡_};
 ghost use Prim.Native.Nat.{_≤_, _*_, min, max};
 ghost use lib.ListN.{length};
-ghost use Rattle.requests.specs.Lent.{mark, Marked};
+ghost use Rattle.requests.specs.Lent.{wordMark, Marked};
 use crate::output::put;
 use crate::output::put_field;
 
 // No stored tree has such a word; they differ from place to place.
 fn word_mark(i: usize) -> u64
-    ensures { λ r. ⌜ r ≡ mark i ⌝ }
+    ensures { λ r. ⌜ r ≡ wordMark i ⌝ }
 {
     i as u64 | 0xa5c3_0000_0000_0000
 }
 
 pub fn mark_words(words: &mut [u64])
-    ensures { λ r. ⌜ Marked (now (words .exit)) (length (now (words .entry))) ⌝ }
+    ensures { λ r. ⌜ Marked wordMark (now (words .exit)) (length (now (words .entry))) ⌝ }
 {
     let mut i = 0;
     while i < words.len() {
@@ -75,11 +75,28 @@ pub fn words_of(nodes: usize, words: &[u64]) -> usize
     2 * nodes
 }
 
+// So many places, or as many as are lent.
+pub fn places_of(count: usize, lent: usize) -> usize
+    ensures { λ r. ⌜ r ≡ min count lent ⌝ }
+{
+    if lent < count {
+        return lent;
+    }
+    count
+}
+
 // The words of so many nodes, and whether those behind them hold their marks.
 pub fn put_written(out: &mut [u8], have: usize, nodes: usize, words: &[u64]) -> usize
     ensures { λ r. ⌜ r ≤ max have (length (now (out .entry))) ⌝ }
 {
-    let taken = words_of(nodes, words);
+    put_words_written(out, have, words_of(nodes, words), words)
+}
+
+// So many words, and whether those behind them hold their marks.
+pub fn put_words_written(out: &mut [u8], have: usize, count: usize, words: &[u64]) -> usize
+    ensures { λ r. ⌜ r ≤ max have (length (now (out .entry))) ⌝ }
+{
+    let taken = places_of(count, words.len());
     let listed = put_words(out, have, &words[0..taken]);
     let parted = put(out, listed, b" /");
     put_words_kept(out, parted, words, taken)

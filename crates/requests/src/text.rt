@@ -1,20 +1,34 @@
 // The fields of a line, and the numbers that they stand for.
 ghost use mathlib.Core.Path.{_≡_};
-ghost use Prim.Native.Nat.{_≤_, max};
+ghost use Prim.Native.Nat.{_≤_, _<_, max};
 ghost use lib.ListN.{length};
 
 // More than the 1,024 words that a tree may have, so that a request can have too many of them.
 pub const MOST_WORDS: usize = 1100;
 
+// More than the 9,219 bytes of the longest frame.
+pub const MOST_BYTES: usize = 9472;
+
 // A width has 32 bits.
 pub const LARGEST_WIDTH: u64 = 0xffff_ffff;
+
+const LARGEST_WORD: u64 = 0xffff_ffff_ffff_ffff;
+
+const LARGEST_BYTE: u64 = 0xff;
 
 enum Field {
     Number(u64),
     Bad,
 }
 
-// Whether a text is a list, and how many of its words were read.
+// Whether a place of a list has a number, which, and where its text ends.
+struct Entry {
+    good: bool,
+    value: u64,
+    end: usize,
+}
+
+// Whether a text is a list, and how many of its numbers were read.
 pub struct Listed {
     pub good: bool,
     pub count: usize,
@@ -71,46 +85,56 @@ fn number(digits: &[u8]) -> Field {
     Field::Number(n)
 }
 
-// Puts the words of a list at the front of `words`. In its text a space stands before each of them.
+fn no_entry(end: usize) -> Entry
+    ensures { λ r. ⌜ (r .value ≡ 0) × (r .end ≡ end) ⌝ }
+{
+    Entry {
+        good: false,
+        value: 0,
+        end,
+    }
+}
+
+// The number at a place of a list, where it is at most `most`. In the list's text a space stands before each number.
+fn entry_at(list: &[u8], at: usize, most: u64) -> Entry
+    requires { ⌜ at < length (now list) ⌝ }
+    ensures { λ r. ⌜ (r .value ≤ most) × (at < r .end) × (r .end ≤ length (now (list .entry))) ⌝ }
+{
+    let start = at + 1;
+    let end = find(list, start, b' ');
+    if list[at] != b' ' {
+        return no_entry(end);
+    }
+    let Field::Number(value) = number(&list[start..end]) else {
+        return no_entry(end);
+    };
+    if most < value {
+        return no_entry(end);
+    }
+    Entry {
+        good: true,
+        value,
+        end,
+    }
+}
+
+// Puts the words of a list at the front of `words`.
 pub fn words_in(list: &[u8], words: &mut [u64]) -> Listed
     ensures { λ r. ⌜ r .count ≤ length (now (words .entry)) ⌝ }
 {
     let mut count = 0;
     let mut at = 0;
     while at < list.len() {
-        if list[at] != b' ' {
+        let entry = entry_at(list, at, LARGEST_WORD);
+        if !entry.good {
             return Listed { good: false, count };
         }
-        let start = at + 1;
-        let end = find(list, start, b' ');
-        let Field::Number(n) = number(&list[start..end]) else {
-            return Listed { good: false, count };
-        };
         if words.len() <= count {
             return Listed { good: false, count };
         }
-        words[count] = n;
+        words[count] = entry.value;
         count += 1;
-        at = end;
-    }
-    Listed { good: true, count }
-}
-
-// Puts words that are widths at the front of `widths`.
-fn narrowed(words: &[u64], widths: &mut [u32]) -> Listed
-    ensures { λ r. ⌜ r .count ≤ length (now (widths .entry)) ⌝ }
-{
-    let mut count = 0;
-    while count < words.len() {
-        let word = words[count];
-        if LARGEST_WIDTH < word {
-            return Listed { good: false, count };
-        }
-        if widths.len() <= count {
-            return Listed { good: false, count };
-        }
-        widths[count] = word as u32;
-        count += 1;
+        at = entry.end;
     }
     Listed { good: true, count }
 }
@@ -119,16 +143,42 @@ fn narrowed(words: &[u64], widths: &mut [u32]) -> Listed
 pub fn u32s_in(list: &[u8], widths: &mut [u32]) -> Listed
     ensures { λ r. ⌜ r .count ≤ length (now (widths .entry)) ⌝ }
 {
-    let mut words = [0u64; MOST_WORDS];
-    let listed = words_in(list, &mut words);
-    if !listed.good {
-        return Listed {
-            good: false,
-            count: 0,
-        };
+    let mut count = 0;
+    let mut at = 0;
+    while at < list.len() {
+        let entry = entry_at(list, at, LARGEST_WIDTH);
+        if !entry.good {
+            return Listed { good: false, count };
+        }
+        if widths.len() <= count {
+            return Listed { good: false, count };
+        }
+        widths[count] = entry.value as u32;
+        count += 1;
+        at = entry.end;
     }
-    let n = listed.count;
-    narrowed(&words[0..n], widths)
+    Listed { good: true, count }
+}
+
+// As `words_in`, for bytes.
+pub fn bytes_in(list: &[u8], bytes: &mut [u8]) -> Listed
+    ensures { λ r. ⌜ r .count ≤ length (now (bytes .entry)) ⌝ }
+{
+    let mut count = 0;
+    let mut at = 0;
+    while at < list.len() {
+        let entry = entry_at(list, at, LARGEST_BYTE);
+        if !entry.good {
+            return Listed { good: false, count };
+        }
+        if bytes.len() <= count {
+            return Listed { good: false, count };
+        }
+        bytes[count] = entry.value as u8;
+        count += 1;
+        at = entry.end;
+    }
+    Listed { good: true, count }
 }
 
 // One list alone.

@@ -1,4 +1,4 @@
-// Added by the harness: everything above is the original file. Its private functions, for the requests.
+// Added by the harness: everything above is the Rust's file. Its private functions, for the requests.
 pub mod access {
     use super::{Arc, Expr};
 

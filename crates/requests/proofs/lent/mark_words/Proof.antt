@@ -4,13 +4,13 @@ use Prim.Native.Nat.{_-_}
 use borrow.Author.Needs.{needs}
 use native.Mathlib.Omega.{arith}
 use lib.ListN.{length, length-set}
-use Rattle.requests.specs.Lent.{Marked}
+use Rattle.requests.specs.Lent.{wordMark, Marked}
 use Rattle.requests.proofs.LentLaws.{marking}
 use Rattle.requests.proofs.lent.mark_words.Statement.{statement}
 use Rattle.requests.proofs.lent.mark_words.Tie as tie
 
 abbrev Inv-loop : tie.InvT-loop
-Inv-loop words₀ i₀ words i = (length words ≡ length words₀) × Marked words i
+Inv-loop words₀ i₀ words i = (length words ≡ length words₀) × Marked wordMark words i
 
 abbrev μ-loop : tie.MeasureT-loop
 μ-loop words₀ i₀ words i = length words₀ - i

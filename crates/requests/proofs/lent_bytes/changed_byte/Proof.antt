@@ -1,9 +1,9 @@
--- `replay_rewrites::lent_path::changed_byte` is safe and ends. Assumes nothing.
+-- `requests::lent_bytes::changed_byte` is safe and ends. Assumes nothing.
 use Prim.Native.Nat.{_≤_, _-_}
 use borrow.Author.Needs.{needs}
 use lib.ListN.{length}
-use Rattle.replay_rewrites.proofs.lent_path.changed_byte.Statement.{statement}
-use Rattle.replay_rewrites.proofs.lent_path.changed_byte.Tie as tie
+use Rattle.requests.proofs.lent_bytes.changed_byte.Statement.{statement}
+use Rattle.requests.proofs.lent_bytes.changed_byte.Tie as tie
 
 abbrev Inv-loop : tie.InvT-loop
 Inv-loop bytes from i₀ i = from ≤ i
