@@ -4,8 +4,8 @@
     python3 tests/report.py PROGRAM
     python3 tests/report.py --make HARNESS
 
-The first runs PROGRAM on tables that are made here and holds what it writes to report-expected.json; then it feeds tables in pieces, and looks at
-what is left unread behind line 65,535, at writes that fail and at the memory. The second writes report-expected.json again with the Rust harness
+The first runs PROGRAM on tables that are made here and compares what it writes with report-expected.json; then it feeds tables in pieces, and looks at
+what is left unread behind line 65,535, at reads and writes that fail and at the memory. The second writes report-expected.json again with the Rust harness
 (oracle/README.md): for each table the SHA-256 of the input, so that a table that has changed shows, and SHA-256 and length of its report.
 """
 import fcntl
@@ -57,7 +57,7 @@ REFUSED = [("e", [b"", b"08", b"0A010000000000000000", b"0801000000000000000g", 
 # Tables
 
 def told():
-    """Name to a table and its report, which can be told at sight."""
+    """Name to a table and its report, which is written out here."""
     lines = [(number, line) for number, lines in REFUSED for line in lines]
     refused = "".join(f"{at:x} {number} 0 0 0 0\n" for at, (number, _) in enumerate(lines, 1)) + f"= {len(lines):x} {len(lines):x} 0\n"
     return {"document 01's example": (EXAMPLE + b"\n", EXAMPLE_REPORT),
@@ -281,6 +281,7 @@ def cases(program, expected):
     yield fed("65,536 lines", "65,536 bytes at a time", cut(large["65,536 lines"], PIPE))
 
     yield from reading(program, large["65,535 lines and junk"], expected["65,535 lines and junk"])
+    yield from failed_reads(program)
     yield from writing(program, large["65,535 lines"])
     yield from memory(program, large["65,535 lines"])
 
@@ -305,7 +306,7 @@ def reading(program, data, entry):
 
 
 def writing(program, data):
-    """Where it cannot write, it ends; how is its own affair."""
+    """Where it cannot write, it ends; its exit status is not tested."""
 
     def failing(**where):
         subprocess.run(program, input=data, timeout=SECONDS, **where)
@@ -324,6 +325,23 @@ def writing(program, data):
     yield "a full device for its output", full
     yield "a closed output", lambda: failing(preexec_fn=lambda: os.close(1))
     yield "an output that nobody reads", no_reader
+
+
+def failed_reads(program):
+    """Where it cannot read, it ends without a closing line."""
+
+    def unreadable(**where):
+        return differs(subprocess.run(program, stdout=subprocess.PIPE, timeout=SECONDS, **where).stdout, b"")
+
+    def folder():
+        descriptor = os.open("/", os.O_RDONLY)
+        try:
+            return unreadable(stdin=descriptor)
+        finally:
+            os.close(descriptor)
+
+    yield "a folder for its input", folder
+    yield "a closed input", lambda: unreadable(preexec_fn=lambda: os.close(0))
 
 
 def memory(program, data):

@@ -294,7 +294,7 @@ def random_frames(rng, count, most):
 def damaged_frames(rng, count):
     """Words changed; and bytes of a line changed."""
     lines = []
-    for turn in range(count):
+    for _ in range(count):
         words = damaged(rng, some_tree(rng, some_size(rng, 16)))
         width = random_width(rng) if rng.below(9) else rng.pick(WIDTHS + [BIG - 1])
         lines += [check_at(words, width), written(words, width, random_size(rng, due(words), MOST_BYTES))]

@@ -234,7 +234,7 @@ fn fitting(tree: Arc<Expr>, due: usize, out: usize) -> Result<Arc<Expr>, Refusal
     Ok(tree)
 }
 
-/// The first refusal of 14, 1, 6 to 7, 9. A list of 512 nodes at most has no refusal 2.
+/// The first refusal of 14, 1, then 6, 3, 4, 5 at each node, 7, 9. A list of 512 nodes at most has no refusal 2.
 fn framed(line: &[u8], out: usize) -> Result<(u32, Arc<Expr>), Refusal> {
     let (width, words) = read(line.strip_suffix(&[END]).unwrap_or(line))?;
     let tree = words::read_at(&words, width)?;

@@ -36,7 +36,7 @@ module _ (w : ℕ) where
   pub mask-all : 64 ≤ w → 0xffff_ffff_ffff_ffff ≡ bitmaskOf w
   mask-all h = ap (λ (n : ℕ). n - 1) (sym (size-high w h))
 
-  -- there is a bit to take one from
+  -- the power is not 0, so that 1 can be subtracted
   pub mask-some : w < 64 → 1 ≤ (1 * 2 ^ w) % 2 ^ 64
   mask-some h = omega (arith, shl-one w h, pow-pos w)
 

@@ -32,7 +32,7 @@ columns c a₁ a₀ b₁ b₀ = simp (mul-add, add-mul, mul-assoc, mul-comm, mul
 abbrev by-halves : (ℕ → ℕ) → ℕ → ℕ → ℕ
 by-halves low a b = (low a * low b + (low a * (b / 2 ^ 32) + a / 2 ^ 32 * low b) % 2 ^ 64 * 2 ^ 32 % 2 ^ 64) % 2 ^ 64
 
--- the product of the high halves falls out
+-- the product of the high halves is a multiple of 2 ^ 64
 halves : (a b : ℕ) → by-halves (λ n. n % 2 ^ 32) a b ≡ (a * b) % 2 ^ 64
 halves a b =
     let p : ℕ = a % 2 ^ 32 * (b % 2 ^ 32) in

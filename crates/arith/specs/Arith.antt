@@ -43,7 +43,7 @@ modShr a k w = a / 2 ^ k % size w
 abbrev pub lowBits : ℕ → ℕ → ℕ
 lowBits v to = v % size to
 
--- the low `from` bits, where the highest of them is set all higher bits of the word too, and of that the low `to` bits
+-- `sext`: the low `from` bits; where the highest of them is set, all higher bits of the word too; of that the low `to` bits
 abbrev pub signExtended : ℕ → ℕ → ℕ → ℕ
 signExtended v from to =
     let low : ℕ = v % size from in

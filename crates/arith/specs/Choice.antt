@@ -1,4 +1,4 @@
--- One of two by a test: the library's `cond`, written as words, in which definitions of several cases read in order. Definitions only.
+-- One of two by a test: the library's `cond` in words, so that a definition of several cases can be read from top to bottom. Definitions only.
 use mathlib.Core.Bool.{Bool, true, false}
 
 infix 1 if_then_else_

@@ -53,7 +53,7 @@ module _ (w : ℕ) where
         ∙ add-mod-right n (2 ^ w);
   }
 
-  -- a number that is taken away may be taken away whole
+  -- a number that is subtracted need not be reduced modulo 2 ^ w
   pub diff-unreduced : {v p n : ℕ} (m k : ℕ) → Diff w v p n → n ≡ m + k % 2 ^ w → Diff w v p (m + k)
   diff-unreduced {v} {p} {n} m k d e = record {
     below = d .below;
@@ -71,7 +71,7 @@ module _ (w : ℕ) where
       ∙ ap (λ (t : ℕ). (t + k) % 2 ^ w) (d .diff)
       ∙ mod-add-mod p (2 ^ w) k
 
-  -- two differences are the same number where they are equal up to whole turns, i on one side and j on the other
+  -- two differences are the same number where they are equal up to multiples of 2 ^ w, i of them on one side and j on the other
   pub diff-unique : {v u p n q k : ℕ} → Diff w v p n → Diff w u q k → (i j : ℕ) → p + k + i * 2 ^ w ≡ q + n + j * 2 ^ w → v ≡ u
   diff-unique {v} {u} {p} {n} {q} {k} d e i j h =
       sym (mod-eq-of-lt (d .below))

@@ -41,7 +41,7 @@ pub fn mod_sub(a: u64, b: u64, bitwidth: u32) -> u64
     std::num::wrapping_sub_u64(a, b) & bitmask(bitwidth)
 }
 
-// Rust's `wrapping_mul`, by halves of 32 bits: the product of the two high halves falls out of the word.
+// Rust's `wrapping_mul`, by halves of 32 bits: the product of the two high halves is a multiple of 2^64, and is left out.
 fn wrapping_mul(a: u64, b: u64) -> u64
     ensures { λ r. ⌜ r ≡ (a * b) % 2 ^ 64 ⌝ }
 {

@@ -14,7 +14,7 @@ use Rattle.expr.specs.Front.{leftOf, rightOf}
 use Rattle.rewriting.specs.Optional.{_andThen_, _orElse_, onlyIf, map}
 use Rattle.rewriting.specs.OptionalLaws.{not-both, Every, every-at, every-orElse, every-map, every-map-on}
 use Rattle.rewriting.specs.AtomIdentityRewrite as def
-use Rattle.rewriting.specs.AtomIdentityRewrite.{besideNotOf, anyNegated, extract, only, plusAndMinus, isThere, isOne, isOr, isMinusTwo, isMinusTwiceOr, matchAndViaNotOrPlusAPlusOne, matchXorViaOrnotFlat}
+use Rattle.rewriting.specs.AtomIdentityRewrite.{besideNotOf, anyNegated, extract, only, plusAndMinus, isThere, asOne, asOr, asMinusTwo, asMinusTwiceOr, matchAndViaNotOrPlusAPlusOne, matchXorViaOrnotFlat}
 use Rattle.atom_identity_rewrite.specs.declared.candidate.Match.{Match}
 use Rattle.atom_identity_rewrite.specs.declared.candidate.Match.the-variants as matched
 use Rattle.atom_identity_rewrite.specs.declared.reading.Roles.{Roles}
@@ -129,12 +129,12 @@ module _ (w : ℕ) where
   andOfLeft q = only (q .1) andThen λ a. map (binary And (a .expr)) (besideNotOf (a .expr) (q .0 .0) (q .0 .1))
 
   abbrev andOfRest : Expr × List def.Addend → Option Expr
-  andOfRest p = extract isOr (p .1) andThen andOfLeft
+  andOfRest p = extract asOr (p .1) andThen andOfLeft
 
   and-is : (xs : List def.Addend) {three : Bool} → eqb (length xs) 3 ≡ three → {negated : Bool} → anyNegated xs ≡ negated
-      → matchAndViaNotOrPlusAPlusOne w xs ≡ (if not three || negated then none else (extract (isOne w) xs andThen andOfRest))
+      → matchAndViaNotOrPlusAPlusOne w xs ≡ (if not three || negated then none else (extract (asOne w) xs andThen andOfRest))
   unfolding matchAndViaNotOrPlusAPlusOne
-  and-is xs l n = ap₂ (λ (c d : Bool). if not c || d then none else (extract (isOne w) xs andThen andOfRest)) l n
+  and-is xs l n = ap₂ (λ (c d : Bool). if not c || d then none else (extract (asOne w) xs andThen andOfRest)) l n
 
   pub and-not-three : (xs : List def.Addend) → (length xs ≡ 3 → ⊥) → matchAndViaNotOrPlusAPlusOne w xs ≡ none
   and-not-three xs f = and-is xs (ne-eqb (length xs) 3 f) refl
@@ -146,7 +146,7 @@ module _ (ws : List ℕ) (r : Roles) where
   module _ (n : r .negated ≡ false) where
     -- the answer for three addends, none of them subtracted
     added-is : (w : ℕ) (xs : List def.Addend) → length xs ≡ 3 → Sorted ws (unitBy 4 w) (orBy 4 w) xs r
-        → matchAndViaNotOrPlusAPlusOne w xs ≡ (extract (isOne w) xs andThen andOfRest w)
+        → matchAndViaNotOrPlusAPlusOne w xs ≡ (extract (asOne w) xs andThen andOfRest w)
     added-is w xs l s = and-is w xs (eq-eqb (length xs) 3 l) (sym (s .negated-is) ∙ n)
 
     pub and-no-unit : r .unit ≡ false → AndOfRoles ws r matched.None
@@ -249,14 +249,14 @@ xorOfLeft q = plusAndMinus (q .1) andThen xorOfPair (q .0)
 
 module _ (w : ℕ) where
   abbrev xorOfRest : Expr × List def.Addend → Option Expr
-  xorOfRest p = extract (isMinusTwiceOr w) (p .1) andThen xorOfLeft
+  xorOfRest p = extract (asMinusTwiceOr w) (p .1) andThen xorOfLeft
 
   xor-by : (xs : List def.Addend) {four : Bool} → eqb (length xs) 4 ≡ four
-      → matchXorViaOrnotFlat w xs ≡ (if not four then none else (extract (isMinusTwo w) xs andThen xorOfRest))
+      → matchXorViaOrnotFlat w xs ≡ (if not four then none else (extract (asMinusTwo w) xs andThen xorOfRest))
   unfolding matchXorViaOrnotFlat
-  xor-by xs l = ap (λ (c : Bool). if not c then none else (extract (isMinusTwo w) xs andThen xorOfRest)) l
+  xor-by xs l = ap (λ (c : Bool). if not c then none else (extract (asMinusTwo w) xs andThen xorOfRest)) l
 
-  xor-is : (xs : List def.Addend) → length xs ≡ 4 → matchXorViaOrnotFlat w xs ≡ (extract (isMinusTwo w) xs andThen xorOfRest)
+  xor-is : (xs : List def.Addend) → length xs ≡ 4 → matchXorViaOrnotFlat w xs ≡ (extract (asMinusTwo w) xs andThen xorOfRest)
   xor-is xs l = xor-by xs (eq-eqb (length xs) 4 l)
 
   pub xor-not-four : (xs : List def.Addend) → (length xs ≡ 4 → ⊥) → matchXorViaOrnotFlat w xs ≡ none

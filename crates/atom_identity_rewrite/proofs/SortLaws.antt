@@ -10,7 +10,7 @@ use Rattle.arith.specs.Choice.{if_then_else_}
 use Rattle.expr.specs.Expr.{Or, Expr}
 use Rattle.rewriting.specs.Optional.{_orElse_, onlyIf, map}
 use Rattle.rewriting.specs.AtomIdentityRewrite as def
-use Rattle.rewriting.specs.AtomIdentityRewrite.{anyNegated, extract, isThere, isMasked, isOne, isOr, isMinusTwo, isMinusTwiceOr, operandsOf, orInProduct}
+use Rattle.rewriting.specs.AtomIdentityRewrite.{anyNegated, extract, isThere, isMasked, asOne, asOr, asMinusTwo, asMinusTwiceOr, operandsOf, orInProduct}
 use Rattle.atom_identity_rewrite.specs.declared.addends.Addend.{Addend}
 use Rattle.atom_identity_rewrite.specs.declared.parts.Part.{Part}
 use Rattle.atom_identity_rewrite.specs.declared.parts.Role.{Role}
@@ -264,11 +264,11 @@ module _ (ws : List ℕ) (tag w : ℕ) (a : Addend) where
 
     pub unit-four : (r : Bool) → r ≡ isMasked w 1 tree → r ≡ isThere (unitBy tag w (addendOf ws a))
     unfolding unitBy
-    unit-four r h = h ∙ there-onlyIf (isMasked w 1 tree) tree ∙ sym (ap (λ (b : Bool). isThere (if b then isOne w (addendOf ws a) else isMinusTwo w (addendOf ws a))) four)
+    unit-four r h = h ∙ there-onlyIf (isMasked w 1 tree) tree ∙ sym (ap (λ (b : Bool). isThere (if b then asOne w (addendOf ws a) else asMinusTwo w (addendOf ws a))) four)
 
     pub or-four : (r : Role) → OrHeld ws r (operandsOf Or tree) → OrHeld ws r (orBy tag w (addendOf ws a))
     unfolding orBy
-    or-four r h = subst (λ (b : Bool). OrHeld ws r (if b then isOr (addendOf ws a) else isMinusTwiceOr w (addendOf ws a))) (sym four) h
+    or-four r h = subst (λ (b : Bool). OrHeld ws r (if b then asOr (addendOf ws a) else asMinusTwiceOr w (addendOf ws a))) (sym four) h
 
   module _ (f : tag ≡ 4 → ⊥) where
     not-four : eqb tag 4 ≡ false
@@ -277,12 +277,12 @@ module _ (ws : List ℕ) (tag w : ℕ) (a : Addend) where
     unit-by : isThere (unitBy tag w (addendOf ws a)) ≡ (a .negated && isMasked w 2 tree)
     unfolding unitBy
     unit-by =
-        ap (λ (b : Bool). isThere (if b then isOne w (addendOf ws a) else isMinusTwo w (addendOf ws a))) not-four
+        ap (λ (b : Bool). isThere (if b then asOne w (addendOf ws a) else asMinusTwo w (addendOf ws a))) not-four
         ∙ sym (there-onlyIf (a .negated && isMasked w 2 tree) tree)
 
     or-by : orBy tag w (addendOf ws a) ≡ (if a .negated then orInProduct (isMasked w 2) tree else none)
     unfolding orBy
-    or-by = ap (λ (b : Bool). if b then isOr (addendOf ws a) else isMinusTwiceOr w (addendOf ws a)) not-four
+    or-by = ap (λ (b : Bool). if b then asOr (addendOf ws a) else asMinusTwiceOr w (addendOf ws a)) not-four
 
     pub unit-five : a .negated ≡ true → (r : Bool) → r ≡ isMasked w 2 tree → r ≡ isThere (unitBy tag w (addendOf ws a))
     unit-five e r h = h ∙ sym (unit-by ∙ ap (λ (b : Bool). b && isMasked w 2 tree) e)

@@ -11,9 +11,9 @@ use mir.Val.{Fits}
 use borrow.Rule.Slice.PartMut.{putMid}
 use Rattle.expr.specs.Expr.{Expr, encode}
 use Rattle.expr.specs.ExprLaws.{length-encode}
-use Rattle.expr.specs.Parts.{tail, part}
+use Rattle.expr.specs.Parts.{tail, part, Laid}
 use Rattle.expr.specs.TailLaws.{length-tail}
-use Rattle.expr.specs.Lent.{over, Laid}
+use Rattle.expr.specs.Lent.{over}
 use Rattle.expr.specs.LentLaws.{laid-length, laid-on}
 use Rattle.atom_identity_rewrite.specs.declared.parts.Part.{Part}
 use Rattle.atom_identity_rewrite.specs.declared.candidate.Candidate.{Candidate}

@@ -6,6 +6,7 @@ use Rattle.atom_identity_rewrite.specs.Calls.{Asked, candidate, noMore}
 use Rattle.atom_identity_rewrite.specs.declared.CandidateAnswer.{CandidateAnswer}
 use Rattle.atom_identity_rewrite.specs.declared.CandidateAnswer.the-variants as answer
 
+-- a tag and a number of nodes, or a number of candidates
 abbrev pub candidateOutcome : CandidateAnswer → Outcome (Asked (ℕ × ℕ))
 candidateOutcome (answer.Candidate tag nodes) = accepted (candidate (tag, nodes))
 candidateOutcome (answer.NoMore count) = accepted (noMore count)

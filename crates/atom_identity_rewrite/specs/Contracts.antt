@@ -1,4 +1,4 @@
--- What this crate's private functions promise one another; no public promise rests on it. Definitions only.
+-- What this crate's private functions promise one another; no public promise names it. Definitions only.
 use mathlib.Core.Path.{_≡_}
 use mathlib.Core.Logic.{_⊎_}
 use mathlib.Core.Bool.{Bool, true, false, _&&_, _||_, not, cond}
@@ -10,13 +10,13 @@ use lib.ListN.{length, take, getD}
 use Rattle.arith.specs.Choice.{if_then_else_}
 use Rattle.expr.specs.Expr.{Binary, Or, Xor, Expr, binary, binaryNumber, encode}
 use Rattle.expr.specs.Outcome.{accepted}
-use Rattle.expr.specs.Parts.{part}
-use Rattle.expr.specs.Lent.{lentAfter, Laid}
+use Rattle.expr.specs.Parts.{part, Laid}
+use Rattle.expr.specs.Lent.{lentAfter}
 use Rattle.expr.specs.Front.{Exactly, treeAt, leftOf, rightOf}
 use Rattle.rewriting.specs.Optional.{_orElse_, onlyIf}
 use Rattle.rewriting.specs.AtomSimplifier as tree
 use Rattle.rewriting.specs.AtomIdentityRewrite as def
-use Rattle.rewriting.specs.AtomIdentityRewrite.{exprEq, isNotOf, xorOfOrAnd, flattenAddends, anyNegated, extract, isThere, isMasked, isConstantNode, isOne, isOr, isMinusTwo, isMinusTwiceOr, laxAnd, laxXor, each, tagged}
+use Rattle.rewriting.specs.AtomIdentityRewrite.{exprEq, isNotOf, xorOfOrAnd, flattenAddends, anyNegated, extract, isThere, isMasked, isConstantNode, asOne, asOr, asMinusTwo, asMinusTwiceOr, laxAnd, laxXor, each, tagged}
 use Rattle.rewriting.specs.CandidateClaims.{numbered}
 use Rattle.atom_identity_rewrite.specs.Calls.{askedFor, told, candidateWords}
 use Rattle.atom_identity_rewrite.specs.Answers.{candidateOutcome}
@@ -199,10 +199,10 @@ factorBy tag w t = if eqb tag 5 then isMasked w 2 t else isConstantNode t
 
 -- the tests for the constant and for the Or
 unfoldable pub unitBy : ℕ → ℕ → def.Addend → Option Expr
-unitBy tag w x = if eqb tag 4 then isOne w x else isMinusTwo w x
+unitBy tag w x = if eqb tag 4 then asOne w x else asMinusTwo w x
 
 unfoldable pub orBy : ℕ → ℕ → def.Addend → Option (Expr × Expr)
-orBy tag w x = if eqb tag 4 then isOr x else isMinusTwiceOr w x
+orBy tag w x = if eqb tag 4 then asOr x else asMinusTwiceOr w x
 
 -- all addends but the first that f answers
 abbrev pub others : {B : Type 0} → Option (B × List def.Addend) → List def.Addend → List def.Addend

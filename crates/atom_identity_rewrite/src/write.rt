@@ -4,7 +4,7 @@ ghost use mathlib.Core.List.{[], _∷_, _++_};
 ghost use Prim.Native.Nat.{_+_, _≤_};
 ghost use lib.ListN.{length};
 ghost use Rattle.expr.specs.Expr.{encode};
-ghost use Rattle.expr.specs.Lent.{Laid};
+ghost use Rattle.expr.specs.Parts.{Laid};
 ghost use Rattle.atom_identity_rewrite.specs.Contracts.{Standing, partTree, secondTree, Writable, Writes};
 use crate::candidate::Candidate;
 use crate::parts::Part;

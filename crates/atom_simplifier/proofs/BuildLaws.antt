@@ -18,12 +18,11 @@ use Rattle.expr.specs.Expr.{Binary, Expr, unary, binary, unaryNumber, unaryOper
 use Rattle.expr.specs.ExprLaws.{nodes-pos, length-encode}
 use Rattle.expr.specs.Parse.{arityOf, operandOk, operandsOk}
 use Rattle.expr.specs.Answers.{arityOutcome}
-use Rattle.expr.specs.Parts.{tail}
+use Rattle.expr.specs.Parts.{tail, Laid}
 use Rattle.expr.specs.TailLaws.{length-tail}
 use Rattle.expr.specs.Front.{Starts, treeAt, leftOf}
 use Rattle.expr.specs.FrontLaws.{UnaryNode, BinaryNode, leaf-node, has-node, has-kind, child-starts, no-kind}
 use Rattle.expr.specs.PartLaws.{tail-short, starts-front}
-use Rattle.expr.specs.Lent.{Laid}
 use Rattle.expr.specs.LentLaws.{put-tail, laid-length}
 use Rattle.rewriting.specs.AtomSimplifier.{firstRewrite}
 use Rattle.rewriting.specs.EndLaws.{Ends, done, no-site, leaf-still, ends-left, ends-right, ends-unary}

@@ -8,9 +8,8 @@ use lib.Seq.{take-all, length-take-le, getD-append-add, getD-take, getD-drop, dr
 use mir.Syntax.{w64}
 use mir.Val.{Fits}
 use borrow.Rule.Slice.PartMut.{putMid}
-use Rattle.expr.specs.Parts.{tail, part}
+use Rattle.expr.specs.Parts.{tail, part, Laid}
 use Rattle.expr.specs.TailLaws.{tail-drop, length-tail}
-use Rattle.expr.specs.Lent.{Laid}
 use Rattle.expr.specs.LentLaws.{laid-length, laid-on}
 use Rattle.expr.specs.PartLaws.{part-length}
 use Rattle.atom_simplifier.proofs.WriteLaws.{Copied, none-copied, one-copied}

@@ -12,9 +12,8 @@ use denote.Enum.Declared.{tagOf}
 use types.Run.{OneOf}
 use Rattle.expr.specs.Expr.{Expr, encode}
 use Rattle.expr.specs.ExprLaws.{prefix-free}
-use Rattle.expr.specs.Parts.{part}
+use Rattle.expr.specs.Parts.{part, Laid}
 use Rattle.expr.specs.Front.{treeAt}
-use Rattle.expr.specs.Lent.{Laid}
 use Rattle.atom_simplifier.specs.declared.local.Decision.{Decision}
 use Rattle.atom_simplifier.specs.declared.local.Decision.the-variants.{Nothing, Part, Constant, Join, DeMorgan}
 use Rattle.atom_simplifier.specs.Contracts.{Joined, Makes, copied, Writes, Replaceable}

@@ -10,8 +10,7 @@ use mir.Val.{Fits}
 use Rattle.expr.specs.Expr.{Expr, binaryNumber, encode}
 use Rattle.expr.specs.ExprLaws.{nodes-pos, length-encode}
 use Rattle.expr.specs.TailLaws.{tail-drop}
-use Rattle.expr.specs.Parts.{part}
-use Rattle.expr.specs.Lent.{Laid}
+use Rattle.expr.specs.Parts.{part, Laid}
 use Rattle.rewriting.specs.AtomSimplifier.{constant, not}
 use Rattle.atom_simplifier.specs.declared.local.Decision.{Decision}
 use Rattle.atom_simplifier.specs.declared.local.Decision.the-variants.{Nothing, Part, Constant, Join, DeMorgan}

@@ -18,11 +18,10 @@ use Rattle.expr.specs.ExprLaws.{nodes-pos, length-encode}
 use Rattle.expr.specs.KindLaws.{number-arity}
 use Rattle.expr.specs.Parse as kinds
 use Rattle.expr.specs.Parse.{arityOf, operandsOk}
-use Rattle.expr.specs.Parts.{part}
+use Rattle.expr.specs.Parts.{part, Laid}
 use Rattle.expr.specs.Front.{Front, Exactly, Whole, treeAt, leftOf, rightOf}
 use Rattle.expr.specs.PartLaws.{front-tree, front-part, starts-front}
 use Rattle.expr.specs.SubtreeLaws.{even-part}
-use Rattle.expr.specs.Lent.{Laid}
 use Rattle.rewriting.specs.AtomSimplifier.{constant, not, localRewrite, firstRewrite}
 use Rattle.rewriting.specs.ShapeLaws.{Less, DeMorgan, over, Change, less, turned-over, local-change}
 use Rattle.rewriting.specs.KeptLaws.{local-operands}

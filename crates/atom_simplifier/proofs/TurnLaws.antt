@@ -18,11 +18,10 @@ use Rattle.expr.specs.Outcome.{accepted}
 use Rattle.expr.specs.Expr.{Unary, Not, Binary, Expr, leaf, unary, binary, binaryNumber, encode, nodes}
 use Rattle.expr.specs.ExprLaws.{nodes-pos, length-encode, encode-injective}
 use Rattle.expr.specs.Parse.{arityOf, operandOk, operandsOk}
-use Rattle.expr.specs.Parts.{tail, part}
+use Rattle.expr.specs.Parts.{tail, part, Laid}
 use Rattle.expr.specs.TailLaws.{tail-drop, length-tail}
 use Rattle.expr.specs.Front.{Front, Exactly, treeAt, leftOf}
 use Rattle.expr.specs.PartLaws.{front-tree, starts-front}
-use Rattle.expr.specs.Lent.{Laid}
 use Rattle.expr.specs.LentLaws.{put-tail}
 use Rattle.rewriting.specs.AtomSimplifier.{not, isNot, localRewrite, firstRewrite}
 use Rattle.rewriting.specs.TestLaws.{not-kind→eq}

@@ -10,8 +10,7 @@ use lib.Seq.{take-all, length-take-le}
 use borrow.Author.Tests.{ne-eqb}
 use borrow.Rule.Slice.PartMut.{putMid}
 use Rattle.arith.specs.Choice.{if_then_else_}
-use Rattle.expr.specs.Parts.{tail, part}
-use Rattle.expr.specs.Lent.{Laid}
+use Rattle.expr.specs.Parts.{tail, part, Laid}
 use Rattle.expr.specs.LentLaws.{laid-length, laid-on}
 use Rattle.atom_simplifier.specs.Contracts.{copied, dualNumber}
 

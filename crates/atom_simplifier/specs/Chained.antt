@@ -42,5 +42,6 @@ ChainIs (refused r) w widths before after answer = (answer ≡ refused r) × (af
 ChainIs (accepted t) w widths before after answer =
     (n : ℕ) × (count : ℕ) × (answer ≡ accepted (n, count)) × (length after ≡ length before) × Chained w widths t after n count
 
+-- the same as a record, which a proof does not unfold
 pub record ChainGives (admitted : Outcome Expr) (w : ℕ) (widths before after : List ℕ) (answer : Outcome (ℕ × ℕ)) : Type 0 where
   pub is : ChainIs admitted w widths before after answer

@@ -1,4 +1,4 @@
--- What this crate's private functions promise one another; no public promise rests on it. Definitions only.
+-- What this crate's private functions promise one another; no public promise names it. Definitions only.
 use mathlib.Core.Path.{_≡_}
 use mathlib.Core.Bool.{Bool, _||_}
 use mathlib.Core.List.{List, [], _∷_, _++_}
@@ -9,9 +9,8 @@ use lib.ListN.{length, drop, getD, set}
 use Rattle.arith.specs.Choice.{if_then_else_}
 use Rattle.expr.specs.Expr.{Binary, Expr, binary, binaryNumber, encode}
 use Rattle.expr.specs.Parse.{operandsOk}
-use Rattle.expr.specs.Parts.{tail, part}
+use Rattle.expr.specs.Parts.{tail, part, Laid}
 use Rattle.expr.specs.Front.{Front, Starts, Whole, treeAt}
-use Rattle.expr.specs.Lent.{Laid}
 use Rattle.rewriting.specs.Optional.{_equalsSome_}
 use Rattle.rewriting.specs.AtomSimplifier as def
 use Rattle.rewriting.specs.AtomSimplifier.{constant, not, isNot, constantVal, unlessSame, Bitwise, and, or, xor, kindOf, arms, firstRewrite}

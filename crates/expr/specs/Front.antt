@@ -1,5 +1,5 @@
 -- Words that begin with those of a tree. Private walks over parts of the lent words, in the crates above this one, promise and require
--- it; no public promise rests on it. Definitions only.
+-- it; no public promise names it. Definitions only.
 use mathlib.Core.Path.{_≡_}
 use mathlib.Core.List.{List, _++_}
 use Prim.Native.Nat.{ℕ}

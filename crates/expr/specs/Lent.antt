@@ -1,5 +1,4 @@
 -- Lent places after something is written at their front, and after a call. Definitions only.
-use mathlib.Core.Path.{_≡_}
 use mathlib.Core.List.{List, _++_}
 use Prim.Native.Nat.{ℕ}
 use lib.ListN.{length, drop}
@@ -13,7 +12,3 @@ over xs lent = xs ++ drop (length xs) lent
 abbrev pub lentAfter : {A : Type 0} → (A → List ℕ) → Outcome A → List ℕ → List ℕ
 lentAfter f (refused r) lent = lent
 lentAfter f (accepted a) lent = over (f a) lent
-
--- `over` between the places before and after: private contracts name this record
-pub record Laid (before after xs : List ℕ) : Type 0 where
-  pub is : after ≡ over xs before

@@ -6,9 +6,8 @@ use native.Mathlib.Omega.{arith}
 use lib.ListN.{length, take, drop, length-append, length-drop, drop-of-length-le}
 use lib.Seq.{take-at, drop-at, drop-drop}
 use borrow.Rule.Slice.PartMut.{putMid}
-use Rattle.expr.specs.Parts.{tail}
+use Rattle.expr.specs.Parts.{tail, Laid}
 use Rattle.expr.specs.TailLaws.{tail-drop}
-use Rattle.expr.specs.Lent.{Laid}
 
 -- a part to the end, back in its place
 pub put-tail : (n : ℕ) (xs ys : List ℕ) → putMid n (length xs - n) xs ys ≡ take n xs ++ ys

@@ -91,7 +91,7 @@ whole (t, w ∷ ws) = refused (refusal 7)
 unfoldable pub parse : List ℕ → Outcome Expr
 parse ws = if wordCountOk (length ws) then subtree 64 ws andThen whole else refused (refusal 2)
 
--- ---- the trees whose words are accepted
+-- ---- the trees whose words are accepted: `parse-sound` and `parse-complete` of ParseLaws are stated with these
 
 -- the operands of a tree are in range
 unfoldable pub operandsOk : Expr → Bool

@@ -37,7 +37,7 @@ pub enum Verdict {
     Refused(Refusal),
 }
 
-// The number of children of a kind word. Nothing else in the repository decides it.
+// The number of children of a kind word. No other function decides it.
 pub fn arity_of(kind: u64) -> Arity
     ensures { λ r. ⌜ arityOutcome r ≡ arityOf kind ⌝ }
 {
@@ -50,6 +50,7 @@ pub fn arity_of(kind: u64) -> Arity
     }
 }
 
+// Whether the kind allows the operand.
 fn operand_ok(kind: u64, operand: u64) -> bool
     ensures { λ r. ⌜ r ≡ operandOk kind operand ⌝ }
 {
@@ -77,6 +78,7 @@ fn node_arity(kind: u64, operand: u64, levels: usize) -> Arity
     known
 }
 
+// Whether so many words are a whole number of nodes, from 1 to 512.
 fn word_count_ok(count: usize) -> bool
     ensures { λ r. ⌜ r ≡ wordCountOk count ⌝ }
 {

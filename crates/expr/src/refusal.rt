@@ -20,7 +20,7 @@ pub enum Refusal {
     WordsLeftOver,
     // 8: `is_uniform_width` says no.
     NotUniform,
-    // 9: the lent output cannot hold the answer.
+    // 9: a lent output is below the size that document 01 gives for the call.
     OutputTooSmall,
     // 10 to 13 stand for the Rust's `InvalidArgument`.
     // 10: a part of the tree has a width that is not one of 1 to 64; carries it.

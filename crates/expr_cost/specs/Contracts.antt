@@ -1,4 +1,4 @@
--- What this crate's private functions require of one another; no public promise rests on it. Definitions only.
+-- What this crate's private functions require of one another; no public promise names it. Definitions only.
 use Prim.Native.Nat.{_^_, _≤_}
 use Rattle.expr_cost.specs.declared.CostInfo.{CostInfo}
 

@@ -33,14 +33,14 @@ nonlinearMulCount (leaf k) = 0
 nonlinearMulCount (unary k t) = nonlinearMulCount t
 nonlinearMulCount (binary k l r) = nonlinearMulCount l + nonlinearMulCount r + (if isNonlinear k l r then 1 else 0)
 
--- the answer's four members: weight, nonlinear products, levels, and whether there is a Variable
+-- the answer's four members: weight, nonlinear products, depth, and whether there is a Variable
 unfoldable pub computeCost : Expr → CostInfo
 computeCost t = record {
   cost = record { «weighted_size» = weightedSize t; «nonlinear_mul_count» = nonlinearMulCount t; «max_depth» = depth t };
   «has_var_dep» = hasVarDep t;
 }
 
--- less in weight; or equal in it and less in nonlinear products; or equal in both and less in levels
+-- less in weight; or equal in it and less in nonlinear products; or equal in both and less in depth
 abbrev pub isBetter : ExprCost → ExprCost → Bool
 isBetter c b =
     ltb (c .«weighted_size») (b .«weighted_size»)

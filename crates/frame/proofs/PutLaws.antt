@@ -18,9 +18,9 @@ use Rattle.expr.specs.OutcomeLaws.{then-accepted, refused-then}
 use Rattle.expr.specs.Expr.{Expr, nodes}
 use Rattle.expr.specs.ExprLaws.{length-encode}
 use Rattle.expr.specs.Answers.{countedOutcome}
-use Rattle.expr.specs.Parts.{tail}
+use Rattle.expr.specs.Parts.{tail, Laid}
 use Rattle.expr.specs.TailLaws.{length-tail}
-use Rattle.expr.specs.Lent.{over, lentAfter, Laid}
+use Rattle.expr.specs.Lent.{over, lentAfter}
 use Rattle.expr.specs.LentLaws.{laid-length, laid-on}
 use Rattle.hex.specs.Hex.{digits}
 use Rattle.hex.specs.HexLaws.{length-digits}

@@ -1,4 +1,4 @@
--- What this crate's private functions promise one another; no public promise rests on it. Definitions only.
+-- What this crate's private functions promise one another; no public promise names it. Definitions only.
 use mathlib.Core.Path.{_≡_}
 use mathlib.Core.List.{List}
 use Prim.Native.Nat.{ℕ, _≤_}

@@ -10,8 +10,8 @@ use lib.ListN.{length, take, drop, getD, set, length-set, length-append, length-
 use lib.Seq.{take-suc, take-all, take-add, take-at, drop-at, drop-drop, drop-cons, drop-length, set-at, length-take-le}
 use borrow.Author.Tests.{eqb-true}
 use borrow.Rule.Slice.PartMut.{putMid}
-use Rattle.expr.specs.Parts.{part}
-use Rattle.expr.specs.Lent.{over, Laid}
+use Rattle.expr.specs.Parts.{part, Laid}
+use Rattle.expr.specs.Lent.{over}
 use Rattle.arith.specs.ChoiceLaws.{both-true}
 use Rattle.hex.specs.Hex.{glyphOf, digitOf, digits, allDigits, numberFrom, numberOf}
 use Rattle.hex.specs.Contracts.{allZeros}

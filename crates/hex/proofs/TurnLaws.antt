@@ -7,9 +7,9 @@ use native.Mathlib.Omega.{arith}
 use lib.ListN.{length, take, drop, set, length-drop}
 use lib.Seq.{take-add, length-take-le}
 use borrow.Rule.Slice.PartMut.{putMid}
-use Rattle.expr.specs.Parts.{tail, part}
+use Rattle.expr.specs.Parts.{tail, part, Laid}
 use Rattle.expr.specs.TailLaws.{tail-drop, length-tail}
-use Rattle.expr.specs.Lent.{over, Laid}
+use Rattle.expr.specs.Lent.{over}
 use Rattle.expr.specs.LentLaws.{laid-length, laid-on}
 use Rattle.hex.specs.Hex.{allDigits}
 use Rattle.hex.specs.HexLaws.{all-append, number-whole}

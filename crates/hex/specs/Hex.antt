@@ -9,7 +9,7 @@ use Rattle.arith.specs.Choice.{if_then_else_}
 abbrev pub glyphOf : ℕ → ℕ
 glyphOf d = if ltb d 10 then 48 + d else 87 + d
 
--- the digit that a byte stands for; 16 where it stands for none, as an upper-case letter does
+-- the digit that a byte stands for; 16 where it stands for none; an upper-case letter stands for none
 abbrev pub digitOf : ℕ → ℕ
 digitOf b =
     if ltb b 48 then 16 else
@@ -37,7 +37,7 @@ numberFrom n (b ∷ bs) = numberFrom (n * 16 + digitOf b % 16) bs
 abbrev pub numberOf : List ℕ → ℕ
 numberOf bs = numberFrom 0 bs
 
--- how many digits n has without zeros in front, but no more than the first number and one
+-- how many digits n has without zeros in front, but at most one more than the first number
 unfoldable pub placesFrom : ℕ → ℕ → ℕ
 placesFrom zero n = 1
 placesFrom (suc more) n = if ltb n 16 then 1 else suc (placesFrom more (n / 16))

@@ -3,7 +3,8 @@
 ghost use mathlib.Core.Path.{_≡_};
 ghost use Prim.Native.Nat.{min, _*_, _/_, _%_, _^_, _<_, _≤_};
 ghost use lib.ListN.{length, take};
-ghost use Rattle.expr.specs.Lent.{over, Laid};
+ghost use Rattle.expr.specs.Lent.{over};
+ghost use Rattle.expr.specs.Parts.{Laid};
 ghost use Rattle.hex.specs.Hex.{glyphOf, digitOf, digits, allDigits, numberOf, places};
 ghost use Rattle.hex.specs.Contracts.{allZeros};
 ghost use Rattle.hex.specs.Nodes.{nodesText, wordsOf};

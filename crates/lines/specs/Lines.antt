@@ -8,7 +8,7 @@ use Rattle.arith.specs.Choice.{if_then_else_}
 
 -- ---- lines
 
--- a line end is byte 0a; the last line may lack it, and a final one opens no further line
+-- what the bytes after the last line end, byte 0a, give: one line, or none where there are no such bytes
 unfoldable pub lastLine : List ℕ → List (List ℕ)
 lastLine [] = []
 lastLine (b ∷ bs) = (b ∷ bs) ∷ []
@@ -21,11 +21,6 @@ linesFrom before (b ∷ bs) = if eqb b 10 then before ∷ linesFrom [] bs else l
 -- the lines of bytes
 abbrev pub linesOf : List ℕ → List (List ℕ)
 linesOf bs = linesFrom [] bs
-
--- how many line ends bytes have
-unfoldable pub endCount : List ℕ → ℕ
-endCount [] = 0
-endCount (b ∷ bs) = if eqb b 10 then suc (endCount bs) else endCount bs
 
 -- ---- the first line end of a chunk
 

@@ -6,7 +6,8 @@ use Prim.Native.Nat.{ℕ, zero, suc, _+_, _≤_, _<_}
 use native.Mathlib.Omega.{arith}
 use lib.Dec.{eqb}
 use lib.ListN.{length, take, drop}
-use Rattle.lines.specs.Lines.{lastLine, linesFrom, linesOf, endCount, upTo, hasEnd, usedOf}
+use Rattle.arith.specs.Choice.{if_then_else_}
+use Rattle.lines.specs.Lines.{lastLine, linesFrom, linesOf, upTo, hasEnd, usedOf}
 
 cases : {P : Type 0} (t : Bool) → (t ≡ true → P) → (t ≡ false → P) → P
 cases true f g = f refl
@@ -70,6 +71,11 @@ lines-going p (b ∷ bs) r h = cases (eqb b 10) (λ t. never (rw t at h)) (λ t.
 pub lines-last : (b : ℕ) (bs : List ℕ) → hasEnd (b ∷ bs) ≡ false → linesOf (b ∷ bs) ≡ (b ∷ bs) ∷ []
 unfolding linesFrom lastLine
 lines-last b bs h = sym (ap (linesFrom []) (append-nil (b ∷ bs))) ∙ lines-going [] (b ∷ bs) [] h ∙ ap lastLine (going-all (b ∷ bs) h)
+
+-- how many line ends bytes have
+unfoldable pub endCount : List ℕ → ℕ
+endCount [] = 0
+endCount (b ∷ bs) = if eqb b 10 then suc (endCount bs) else endCount bs
 
 -- bytes whose last is 0a have as many lines as line ends
 pub lines-count : (p bs : List ℕ) → length (linesFrom p (bs ++ (10 ∷ []))) ≡ endCount (bs ++ (10 ∷ []))

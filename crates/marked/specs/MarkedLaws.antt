@@ -18,7 +18,8 @@ use Rattle.width.specs.Checked.{checked}
 use Rattle.expr_cost.specs.ExprCost.{weightedSize, nonlinearMulCount, computeCost}
 use Rattle.value.specs.Value.{value, isLent, oneWidth, valueAt}
 use Rattle.rewriting.specs.Measures.{andOrs, D}
-use Rattle.rewriting.specs.Chain.{treesFrom, treesOf, _isAmong_, first, later}
+use Rattle.rewriting.specs.Chain.{treesFrom, treesOf}
+use Rattle.rewriting.specs.ChainLaws.{_isAmong_, first, later}
 use Rattle.rewriting.specs.AtomSimplifier.{samePart, areComplements, containsOperand, constantArms, arms, reassociateConstant, tryFoldBinary, notRewrite, unaryRewrite, unlessSame, foldRewrite, binaryRewrite, localRewrite, firstRewrite}
 use Rattle.rewriting.specs.AtomSimplifier.{isNotOf as isNotOfPart}
 use Rattle.rewriting.specs.AtomIdentityRewrite.{exprEq, operandsOf, operandOfNot, operandOfNeg, isNotOf, besideNotOf, matchBinaryAddWithNeg, xorAbsorbOne, matchXorAndAbsorb, sameUnorderedPair, xorOfOrAnd, matchXorViaOrMinusAnd, andOfOrNot, matchAndViaNotOrMinusNot, pushAddend, anyNegated, extract, only, plusAndMinus, isConstantNode, orInProduct, isMasked, matchAndViaNotOrPlusAPlusOne, matchXorViaOrnotFlat, laxAnd, laxXor, each, isAdd, tagged, laxCandidates, candidates}

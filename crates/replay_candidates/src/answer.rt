@@ -1,14 +1,10 @@
 // The answer to a request.
 use crate::calls;
 use check::same;
-use requests::output::put;
+use requests::output::no_request;
 use requests::text;
 use requests::text::LARGEST_WIDTH;
 use requests::text::MOST_WORDS;
-
-fn no_request(out: &mut [u8], have: usize) -> usize {
-    put(out, have, b"?")
-}
 
 // A candidate that is lent so many words.
 fn candidate(

@@ -3,7 +3,7 @@ ghost use mathlib.Core.Path.{_≡_};
 ghost use lib.ListN.{length};
 use crate::calls;
 use check::same;
-use requests::output::put;
+use requests::output::no_request;
 use requests::text;
 use requests::text::MOST_WORDS;
 
@@ -11,14 +11,10 @@ use requests::text::MOST_WORDS;
 const MOST_WORK: usize = 26240;
 
 // Zeros for the work of a call. The `ensures` gives only the length, which lending the array as a slice needs.
-fn work_buffer() -> [u64; 26240]
+fn work_buffer() -> [u64; MOST_WORK]
     ensures { λ r. ⌜ 26240 ≡ length r ⌝ }
 {
-    [0; 26240]
-}
-
-fn no_request(out: &mut [u8], have: usize) -> usize {
-    put(out, have, b"?")
+    [0; MOST_WORK]
 }
 
 // A chain that is lent so many words.

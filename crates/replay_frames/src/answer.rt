@@ -2,14 +2,10 @@
 use crate::calls;
 use crate::lists;
 use check::same;
-use requests::output::put;
+use requests::output::no_request;
 use requests::text;
 use requests::text::LARGEST_WIDTH;
 use requests::text::MOST_BYTES;
-
-pub(crate) fn no_request(out: &mut [u8], have: usize) -> usize {
-    put(out, have, b"?")
-}
 
 // The last digits of a number, lent so many bytes.
 fn put_digits(out: &mut [u8], have: usize, name: &[u8], n: u64, count: u64, size: u64) -> usize {

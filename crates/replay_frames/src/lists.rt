@@ -1,8 +1,8 @@
 // Requests with words or bytes behind their numbers.
-use crate::answer::no_request;
 use crate::calls;
 use check::same;
 use requests::lent_bytes;
+use requests::output::no_request;
 use requests::text;
 use requests::text::MOST_BYTES;
 use requests::text::MOST_WORDS;

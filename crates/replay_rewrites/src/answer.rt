@@ -1,16 +1,12 @@
 // The answer to a request, by the call that it names.
 use crate::calls;
 use check::same;
-use requests::output::put;
+use requests::output::no_request;
 use requests::text;
 use requests::text::MOST_WORDS;
 
 // No call needs as many bytes for a path.
-const MOST_BYTES: usize = 100;
-
-fn no_request(out: &mut [u8], have: usize) -> usize {
-    put(out, have, b"?")
-}
+const MOST_PATH: usize = 100;
 
 // A local rewrite that is lent so many words.
 fn local(out: &mut [u8], have: usize, words: &[u64], width: u32, size: u32, times: u32) -> usize {
@@ -37,11 +33,11 @@ fn site(
     if MOST_WORDS < most {
         return no_request(out, have);
     }
-    if MOST_BYTES < longest {
+    if MOST_PATH < longest {
         return no_request(out, have);
     }
     let mut room = [0u64; MOST_WORDS];
-    let mut way = [0u8; MOST_BYTES];
+    let mut way = [0u8; MOST_PATH];
     calls::put_site(
         out,
         have,

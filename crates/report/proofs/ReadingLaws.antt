@@ -116,8 +116,8 @@ module _ (s : State) (line words work out chunk : List ℕ) (s' : State) (line' 
 
 -- ---- one chunk after the other
 
-pub none-read : (s : State) (line words work out input : List ℕ) (count : ℕ) → Ready s line words work out → count ≡ 0 → ReadsChunk true s line (take count input) s line
-none-read s line words work out input count h e = record {
+pub none-read : (b : Bool) (s : State) (line words work out input : List ℕ) (count : ℕ) → Ready s line words work out → count ≡ 0 → ReadsChunk b s line (take count input) s line
+none-read b s line words work out input count h e = record {
   text = [];
   advances = λ z. subst (λ (n : ℕ). Advances s line (take n input) (length (take n input)) [] s line) (sym e) (standing s line words work out [] h);
 }

@@ -15,20 +15,26 @@ struct Front {
     state: State,
 }
 
-// The state, and whether the program goes on: not after a failed write.
+// The state, and whether the program goes on: not after a failed read or write.
 struct Fed {
     state: State,
     on: bool,
 }
 
-// The same after one read, and how many bytes it gave.
+// How many bytes a read gave, and whether it failed.
+struct Got {
+    count: usize,
+    failed: bool,
+}
+
+// The same as `Fed` after one read, and how many bytes it gave.
 struct Turn {
     state: State,
     on: bool,
     count: usize,
 }
 
-// A caller's proof has the length of such an array, and not its elements.
+// Each buffer comes from a function of its own, so that a caller's proof has the array's length and not its elements.
 fn line_buffer() -> [u8; LINE_BYTES]
     ensures { λ r. ⌜ 9219 ≡ length r ⌝ }
 {
@@ -58,16 +64,23 @@ fn output_buffer() -> [u8; 131072]
 
 // Reads into the input buffer; 0 bytes at the end of the input, after a failed read and after line 65,535. It asks for as many bytes as lines are
 // left up to that one: each of these has at least its 0a, so that no byte after the last 0a is taken.
-fn read_chunk(lines: u64, input: &mut [u8]) -> usize
+fn read_chunk(lines: u64, input: &mut [u8]) -> Got
     requires { ⌜ length (now input) ≡ 65536 ⌝ }
-    ensures { λ r. ⌜ r ≤ 65535 - lines ⌝ }
+    ensures { λ r. ⌜ r .count ≤ 65535 - lines ⌝ }
 {
     if lines >= MOST_LINES {
-        return 0;
+        return Got {
+            count: 0,
+            failed: false,
+        };
     }
     let left = (MOST_LINES - lines) as usize;
     let got = libc::read(0, &mut input[0..left]);
-    io::count(got, &input[0..left])
+    let count = io::count(got, &input[0..left]);
+    Got {
+        count,
+        failed: got < 0,
+    }
 }
 
 // Reads from the front of a chunk and writes what is printed for it. 0 bytes are answered after a failed write.
@@ -133,11 +146,12 @@ fn read_some(
     ensures { λ r. ⌜ ReadsChunk (r .on) start (now (line .entry)) (take (r .count) (now (input .exit))) (r .state) (now (line .exit)) ⌝ }
 {
     let totals = start.totals;
-    let count = read_chunk(totals.lines, input);
+    let got = read_chunk(totals.lines, input);
+    let count = got.count;
     if count == 0 {
         return Turn {
             state: start,
-            on: true,
+            on: !got.failed,
             count,
         };
     }
@@ -147,7 +161,8 @@ fn read_some(
     Turn { state, on, count }
 }
 
-// A proved loop has to end, and nothing says that the input does: the turns are counted down from a number that no run uses up.
+// Reads to the end of the input or to line 65,535. A proved loop has to end, and nothing says that the input does: the turns are counted down from a
+// number that no run uses up.
 fn read_all(
     start: State,
     input: &mut [u8],
@@ -182,7 +197,7 @@ fn write_rest(state: State, line: &[u8], words: &mut [u64], work: &mut [u64], ou
     io::write_all(1, &out[0..put]);
 }
 
-// After a failed write nothing more is read or written, the closing line neither.
+// After a failed read or write nothing more is read or written, and so no closing line: a report that was cut off does not look whole.
 fn report(
     start: State,
     input: &mut [u8],

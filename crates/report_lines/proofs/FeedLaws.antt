@@ -10,9 +10,8 @@ use lib.ListN.{length, take, drop, length-append, length-drop, length-take}
 use lib.Seq.{take-at, length-take-le}
 use borrow.Author.Tests.{not-true, not-false}
 use borrow.Rule.Slice.PartMut.{putMid}
-use Rattle.expr.specs.Parts.{tail, part}
+use Rattle.expr.specs.Parts.{tail, part, Laid}
 use Rattle.expr.specs.TailLaws.{tail-drop, length-tail}
-use Rattle.expr.specs.Lent.{Laid}
 use Rattle.expr.specs.LentLaws.{laid-length, laid-on}
 use Rattle.lines.specs.Lines.{lastLine, linesFrom}
 use Rattle.report_lines.specs.declared.Totals.{Totals}

@@ -15,10 +15,10 @@ use Rattle.expr.specs.declared.refusal.Refusal.{Refusal}
 use Rattle.expr.specs.Refusals.{refusal, reasonOf}
 use Rattle.expr.specs.Outcome.{Outcome, refused, accepted, _andThen_}
 use Rattle.expr.specs.Expr.{nodes}
-use Rattle.expr.specs.Parts.{tail, part}
+use Rattle.expr.specs.Parts.{tail, part, Laid}
 use Rattle.expr.specs.Front.{Whole, treeAt}
 use Rattle.expr.specs.PartLaws.{exact-length}
-use Rattle.expr.specs.Lent.{over, Laid}
+use Rattle.expr.specs.Lent.{over}
 use Rattle.expr.specs.LentLaws.{laid-on}
 use Rattle.atom_simplifier.specs.declared.chain.ChainAnswer.{ChainAnswer}
 use Rattle.atom_simplifier.specs.declared.chain.ChainAnswer.the-variants.{End, Refused}

@@ -10,8 +10,8 @@ use Rattle.expr.specs.declared.refusal.Reason.{Reason}
 use Rattle.expr.specs.Outcome.{Outcome, refused, accepted, mapped, _andThen_}
 use Rattle.expr.specs.Expr.{Expr, nodes}
 use Rattle.expr.specs.ParseLaws.{parse-sound}
-use Rattle.expr.specs.Parts.{part}
-use Rattle.expr.specs.Lent.{over, Laid}
+use Rattle.expr.specs.Parts.{part, Laid}
+use Rattle.expr.specs.Lent.{over}
 use Rattle.value.specs.ValueLaws.{one-width-sound}
 use Rattle.rewriting.specs.Chain.{lastOf, treesOf}
 use Rattle.rewriting.specs.ChainLaws.{trees-listed, last-nodes}

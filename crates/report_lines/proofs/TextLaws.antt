@@ -13,9 +13,9 @@ use lib.Seq.{drop-cons, set-at}
 use borrow.Author.Tests.{ltb-true, ltb-false, lt-ltb, le-ltb, ne-eqb}
 use borrow.Rule.Slice.PartMut.{putMid}
 use Rattle.arith.specs.Choice.{if_then_else_}
-use Rattle.expr.specs.Parts.{tail}
+use Rattle.expr.specs.Parts.{tail, Laid}
 use Rattle.expr.specs.TailLaws.{length-tail}
-use Rattle.expr.specs.Lent.{over, Laid}
+use Rattle.expr.specs.Lent.{over}
 use Rattle.expr.specs.LentLaws.{laid-length, laid-on}
 use Rattle.hex.specs.Hex.{digits, places, hexText}
 use Rattle.hex.specs.HexLaws.{length-digits, places-range}

@@ -10,8 +10,7 @@ use Rattle.arith.specs.Choice.{if_then_else_}
 use Rattle.expr.specs.Refusals.{refusal}
 use Rattle.expr.specs.Outcome.{Outcome, refused, accepted}
 use Rattle.expr.specs.Front.{Whole, treeAt}
-use Rattle.expr.specs.Lent.{Laid}
-use Rattle.expr.specs.Parts.{tail, part}
+use Rattle.expr.specs.Parts.{tail, part, Laid}
 use Rattle.hex.specs.Hex.{hexText}
 use Rattle.report_lines.specs.declared.Totals.{Totals}
 use Rattle.report_lines.specs.declared.State.{State}

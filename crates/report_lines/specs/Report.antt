@@ -15,7 +15,7 @@ use Rattle.report_lines.specs.declared.Totals.{Totals}
 
 -- ---- what comes of a line
 
--- document 01's conditions: the highest variable number of the tree and one, 0 where it has no variable
+-- document 01's conditions: the highest variable number of the tree plus one, 0 where it has no variable
 unfoldable pub conditionsOf : Expr → ℕ
 conditionsOf (leaf (Constant c)) = 0
 conditionsOf (leaf (Variable i)) = suc i
@@ -75,11 +75,12 @@ abbrev pub refusedLines : Outcome Done → ℕ
 refusedLines (refused r) = 1
 refusedLines (accepted d) = 0
 
--- the nodes of an accepted line before and after the chain
+-- the nodes of an accepted line before the chain
 abbrev pub nodesBefore : Outcome Done → ℕ
 nodesBefore (refused r) = 0
 nodesBefore (accepted d) = nodes (d .tree)
 
+-- and after it
 abbrev pub nodesAfter : Outcome Done → ℕ
 nodesAfter (refused r) = 0
 nodesAfter (accepted d) = nodes (d .end)
@@ -93,13 +94,15 @@ plus a b = record {
   after = a .after + b .after;
 }
 
--- the sums over no line, over one, and over several
+-- the sums over no line
 abbrev pub noTotals : Totals
 noTotals = record { lines = 0; refused = 0; before = 0; after = 0 }
 
+-- the sums over one line
 abbrev pub totalsOf : Outcome Done → Totals
 totalsOf o = record { lines = 1; refused = refusedLines o; before = nodesBefore o; after = nodesAfter o }
 
+-- the sums over several lines
 unfoldable pub sums : List (Outcome Done) → Totals
 sums [] = noTotals
 sums (o ∷ os) = plus (totalsOf o) (sums os)

@@ -31,7 +31,7 @@ pub record Lent : Type 0 where
   pub work : List ℕ
   pub out : List ℕ
 
--- sums that so many lines can have
+-- sums within the bounds that every number of lines keeps: at most 65,535 lines, no more refused ones, at most 512 nodes a line
 unfoldable pub soundTotals : Totals → Bool
 soundTotals t = leb (t .lines) 65535 && (leb (t .refused) (t .lines) && (leb (t .before) (512 * t .lines) && leb (t .after) (512 * t .lines)))
 
@@ -44,6 +44,7 @@ soundRoom line words work out = eqb line 9219 && (leb 1024 words && (leb 4096 wo
 unfoldable pub ready : State → ℕ → ℕ → ℕ → ℕ → Bool
 ready s line words work out = soundTotals (s .totals) && (leb (s .have) line && soundRoom line words work out)
 
+-- the same by what is lent
 abbrev pub isReady : State → Lent → Bool
 isReady s lent = ready s (length (lent .line)) (length (lent .words)) (length (lent .work)) (length (lent .out))
 
@@ -56,8 +57,9 @@ pub record Advances (s : State) (line chunk : List ℕ) (used : ℕ) (text : Lis
   pub have-most : s' .have ≤ length line'
   pub line-length : length line' ≡ length line
 
--- `feed` prints at the front of the output; it stops before the chunk's end only at line 65,535, or where the output has no room for another
--- line for certain. What is in `words` and `work` is left free
+-- `feed` prints at the front of the output; it stops before the chunk's end only at line 65,535, or where the output may have no room for another
+-- line. Free within `Advances` are how much is read where fewer than 9,400 bytes of the output are left, and with it the state and the kept bytes; free
+-- altogether is what is in `words`, in `work`, and in `line` behind its kept bytes
 unfoldable pub FeedsIf : Bool → State → List ℕ → Lent → Step → Lent → Type 0
 FeedsIf false s chunk before r after = (r ≡ record { used = 0; put = 0; state = s }) × (after ≡ before)
 FeedsIf true s chunk before r after =
@@ -66,16 +68,18 @@ FeedsIf true s chunk before r after =
     × (r .put ≤ length (before .out))
     × (r .used < length chunk → r .state .totals .lines < 65535 → length (before .out) < r .put + 9400)
 
+-- the same as a record, which a proof does not unfold
 pub record Feeds (s : State) (chunk : List ℕ) (before : Lent) (r : Step) (after : Lent) : Type 0 where
   pub is : FeedsIf (isReady s before) s chunk before r after
 
--- `finish` prints what is left where the input has no more bytes
+-- `finish` prints what is left where the input has no more bytes; it does not write `line`, and what is in `words` and `work` is left free
 unfoldable pub FinishesIf : Bool → State → Lent → ℕ → Lent → Type 0
 FinishesIf false s before r after = (r ≡ 0) × (after ≡ before)
 FinishesIf true s before r after =
     (after .out ≡ over (restOf (s .totals) (take (s .have) (before .line)) []) (before .out))
     × (r ≡ length (restOf (s .totals) (take (s .have) (before .line)) []))
 
+-- the same as a record, which a proof does not unfold
 pub record Finishes (s : State) (before : Lent) (r : ℕ) (after : Lent) : Type 0 where
   pub is : FinishesIf (isReady s before) s before r after
 

@@ -4,7 +4,7 @@ ghost use mathlib.Core.Path.{_≡_};
 ghost use mathlib.Core.Bool.{true};
 ghost use Prim.Native.Nat.{_+_, _≤_, _<_, _^_};
 ghost use lib.ListN.{length};
-ghost use Rattle.expr.specs.Lent.{Laid};
+ghost use Rattle.expr.specs.Parts.{Laid};
 ghost use Rattle.report_lines.specs.Report.{outcomeOf};
 ghost use Rattle.report_lines.specs.Steps.{soundTotals, soundRoom, ready, Feeds, Finishes};
 ghost use Rattle.report_lines.specs.Contracts.{PrintedStep, Turnable, Turned, FeedsOn, FedOn, Fed, lastText, Finished};
@@ -42,6 +42,7 @@ pub struct Step {
     pub state: State,
 }
 
+// Whether the sums are within the bounds that every number of lines keeps.
 fn sound_totals(t: Totals) -> bool
     ensures { λ r. ⌜ r ≡ soundTotals t ⌝ }
 {
@@ -58,6 +59,7 @@ fn sound_totals(t: Totals) -> bool
     t.after <= most
 }
 
+// Whether the places that are lent are large enough.
 fn sound_room(line: usize, words: usize, work: usize, out: usize) -> bool
     ensures { λ r. ⌜ r ≡ soundRoom line words work out ⌝ }
 {
@@ -73,6 +75,7 @@ fn sound_room(line: usize, words: usize, work: usize, out: usize) -> bool
     TEXT_BYTES <= out
 }
 
+// Whether a call goes on; else it does nothing.
 fn is_ready(s: State, line: usize, words: usize, work: usize, out: usize) -> bool
     ensures { λ r. ⌜ r ≡ ready s line words work out ⌝ }
 {

@@ -6,7 +6,7 @@ ghost use lib.ListN.{length};
 ghost use Rattle.expr.specs.Refusals.{refusal};
 ghost use Rattle.expr.specs.Outcome.{refused, accepted};
 ghost use Rattle.expr.specs.Front.{Whole, treeAt};
-ghost use Rattle.expr.specs.Lent.{Laid};
+ghost use Rattle.expr.specs.Parts.{Laid};
 ghost use Rattle.atom_simplifier.specs.Answers.{chainOutcome};
 ghost use Rattle.frame.specs.Frame.{frame, lineWords};
 ghost use Rattle.report_lines.specs.Report.{chained, outcomeOf};

@@ -5,7 +5,7 @@ ghost use Prim.Native.Nat.{_*_, _≤_};
 ghost use lib.Dec.{ltb};
 ghost use lib.ListN.{length};
 ghost use Rattle.arith.specs.Choice.{if_then_else_};
-ghost use Rattle.expr.specs.Lent.{Laid};
+ghost use Rattle.expr.specs.Parts.{Laid};
 ghost use Rattle.report_lines.specs.Report.{fields, closing, percentageOf};
 ghost use Rattle.report_lines.specs.Steps.{soundTotals};
 ghost use Rattle.report_lines.specs.Contracts.{field};

@@ -35,7 +35,7 @@ fn changed_word(words: &[u64], from: usize) -> usize {
     i
 }
 
-// The first of so many places that is not as it should be, or `good` where there is none.
+// The number of a place that lacks its mark or its 0, where it is one of so many; else `good`.
 pub fn put_place(out: &mut [u8], have: usize, place: usize, places: usize, good: &[u8]) -> usize
     ensures { λ r. ⌜ r ≤ max have (length (now (out .entry))) ⌝ }
 {

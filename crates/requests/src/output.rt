@@ -44,6 +44,13 @@ pub fn put(out: &mut [u8], have: usize, bytes: &[u8]) -> usize
     waiting
 }
 
+// The answer to a line that is no request; no stored answer is the same.
+pub fn no_request(out: &mut [u8], have: usize) -> usize
+    ensures { λ r. ⌜ r ≤ max have (length (now (out .entry))) ⌝ }
+{
+    put(out, have, b"?")
+}
+
 pub fn put_hex(out: &mut [u8], have: usize, n: u64) -> usize
     ensures { λ r. ⌜ r ≤ max have (length (now (out .entry))) ⌝ }
 {

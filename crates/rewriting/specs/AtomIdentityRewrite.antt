@@ -66,6 +66,7 @@ matchBinaryAddWithNeg node =
 
 -- ---- tag 1, `match_xor_and_absorb`: `x ^ (x & y)` becomes `x & !y`
 
+-- `xor_absorb_one`: x and the And of x and another tree, either operand of the And being x; the left one is tested first
 unfoldable pub xorAbsorbOne : Expr → Expr → Option Expr
 xorAbsorbOne x andNode =
     operandsOf And andNode andThen λ (a, b).
@@ -73,12 +74,13 @@ xorAbsorbOne x andNode =
     if exprEq b x then some (binary And x (not a)) else
     none
 
+-- either operand of the Xor may be the And
 unfoldable pub matchXorAndAbsorb : Expr → Option Expr
 matchXorAndAbsorb node = operandsOf Xor node andThen λ (c0, c1). xorAbsorbOne c0 c1 orElse xorAbsorbOne c1 c0
 
 -- ---- tag 2, `match_xor_via_or_minus_and`: `(a | b) - (a & b)` becomes `a ^ b`; the Rust also takes `(a & b) - (a | b)`
 
--- `exprs_equal_as_unordered_pair`
+-- `exprs_equal_as_unordered_pair`: the same two trees in either order
 unfoldable pub sameUnorderedPair : Expr → Expr → Expr → Expr → Bool
 sameUnorderedPair a b x y = (exprEq a x && exprEq b y) || (exprEq a y && exprEq b x)
 
@@ -87,15 +89,18 @@ unfoldable pub xorOfOrAnd : Expr → Expr → Option Expr
 xorOfOrAnd orSide andSide =
     operandsOf Or orSide andThen λ (a, b). operandsOf And andSide andThen λ (x, y). onlyIf (sameUnorderedPair a b x y) (binary Xor a b)
 
+-- the Rust's `pick_or_and` finds the Or and the And: an Or is no And, so that at most one of the two orders gives a tree
 unfoldable pub matchXorViaOrMinusAnd : Expr → Option Expr
 matchXorViaOrMinusAnd node = matchBinaryAddWithNeg node andThen λ (lhs, rhs). xorOfOrAnd lhs rhs orElse xorOfOrAnd rhs lhs
 
 -- ---- tag 3, `match_and_via_not_or_minus_not`: `(!a | b) - !a` becomes `a & b`; the Rust also takes `!a - (!a | b)`
 
+-- of an Or and a Not, either of which may be the one under Neg
 unfoldable pub andOfOrNot : Expr → Expr → Option Expr
 andOfOrNot orSide notSide =
     operandsOf Or orSide andThen λ (l, r). operandOfNot notSide andThen λ a. map (binary And a) (besideNotOf a l r)
 
+-- the Rust's `pick_kind` and `pick_other` find the Or and the Not: an Or is no Not, so that at most one of the two orders gives a tree
 unfoldable pub matchAndViaNotOrMinusNot : Expr → Option Expr
 matchAndViaNotOrMinusNot node = matchBinaryAddWithNeg node andThen λ (lhs, rhs). andOfOrNot lhs rhs orElse andOfOrNot rhs lhs
 
@@ -114,7 +119,7 @@ pushAddend negated (unary k t) =
 pushAddend negated (binary k l r) =
     if sameKind k Add then pushAddend negated l ++ pushAddend negated r else record { expr = binary k l r; negated = negated } ∷ []
 
--- `flatten_addends`
+-- `flatten_addends`: the addends of a tree, which is not subtracted itself
 abbrev pub flattenAddends : Expr → List Addend
 flattenAddends node = pushAddend false node
 
@@ -145,8 +150,8 @@ plusAndMinus (a ∷ b ∷ []) =
 plusAndMinus (a ∷ b ∷ c ∷ xs) = none
 
 -- the operands of an addend that is an Or
-abbrev pub isOr : Addend → Option (Expr × Expr)
-isOr a = operandsOf Or (a .expr)
+abbrev pub asOr : Addend → Option (Expr × Expr)
+asOr a = operandsOf Or (a .expr)
 
 -- the tree is a Constant
 unfoldable pub isConstantNode : Expr → Bool
@@ -172,31 +177,36 @@ module _ (w : ℕ) where
   -- ---- tag 4, `match_and_via_not_or_plus_a_plus_one`: `(!a | x) + a + 1` becomes `a & x`. Three addends, none subtracted: the first that is 1,
   -- of the others the first that is an Or, and the one that is left
 
-  abbrev pub isOne : Addend → Option Expr
-  isOne a = onlyIf (isMasked 1 (a .expr)) (a .expr)
+  -- an addend that is 1
+  abbrev pub asOne : Addend → Option Expr
+  asOne a = onlyIf (isMasked 1 (a .expr)) (a .expr)
 
+  -- the matcher, on the addends of a node
   unfoldable pub matchAndViaNotOrPlusAPlusOne : List Addend → Option Expr
   matchAndViaNotOrPlusAPlusOne addends =
       if bool.not (eqb (length addends) 3) || anyNegated addends then none else
-      (extract isOne addends andThen λ (one, rest).
-      extract isOr rest andThen λ (sides, rest′).
+      (extract asOne addends andThen λ (one, rest).
+      extract asOr rest andThen λ (sides, rest′).
       only rest′ andThen λ a.
       map (binary And (a .expr)) (besideNotOf (a .expr) (sides .0) (sides .1)))
 
   -- ---- tag 5, `match_xor_via_ornot_flat`: `a - b - 2 * (a | !b) - 2` becomes `a ^ b`. Four addends: the first that is -2, of the others the first
   -- that is -2 times an Or, and of the two that are left one that is subtracted and one that is not. At width 1 no constant is 2 under the mask
 
-  abbrev pub isMinusTwo : Addend → Option Expr
-  isMinusTwo a = onlyIf (a .negated && isMasked 2 (a .expr)) (a .expr)
+  -- an addend that is -2
+  abbrev pub asMinusTwo : Addend → Option Expr
+  asMinusTwo a = onlyIf (a .negated && isMasked 2 (a .expr)) (a .expr)
 
-  abbrev pub isMinusTwiceOr : Addend → Option (Expr × Expr)
-  isMinusTwiceOr a = if a .negated then orInProduct (isMasked 2) (a .expr) else none
+  -- the operands of the Or in an addend that is -2 times an Or
+  abbrev pub asMinusTwiceOr : Addend → Option (Expr × Expr)
+  asMinusTwiceOr a = if a .negated then orInProduct (isMasked 2) (a .expr) else none
 
+  -- the matcher, on the addends of a node
   unfoldable pub matchXorViaOrnotFlat : List Addend → Option Expr
   matchXorViaOrnotFlat addends =
       if bool.not (eqb (length addends) 4) then none else
-      (extract isMinusTwo addends andThen λ (two, rest).
-      extract isMinusTwiceOr rest andThen λ (sides, rest′).
+      (extract asMinusTwo addends andThen λ (two, rest).
+      extract asMinusTwiceOr rest andThen λ (sides, rest′).
       plusAndMinus rest′ andThen λ (a, b).
       onlyIf ((exprEq (sides .0) a && isNotOf (sides .1) b) || (exprEq (sides .1) a && isNotOf (sides .0) b)) (binary Xor a b))
 
@@ -220,10 +230,11 @@ abbrev pub ofOperands : (Expr × Expr → List Expr) → Option (Expr × Expr) �
 ofOperands f none = []
 ofOperands f (some s) = f s
 
+-- what tag 6 offers for an addend
 unfoldable pub laxAnd : Addend → List Expr
 laxAnd a = if a .negated then [] else ofOperands laxAndOf (operandsOf Or (a .expr))
 
--- the Or may also stand in a product with a Constant, and the addend may be subtracted
+-- what tag 7 offers for an addend: the Or may also stand in a product with a Constant, and the addend may be subtracted
 unfoldable pub laxXor : Addend → List Expr
 laxXor a = ofOperands laxXorOf (operandsOf Or (a .expr) orElse orInProduct isConstantNode (a .expr))
 
@@ -246,6 +257,7 @@ pub record Candidate : Type 0 where
   pub tag : ℕ
   pub tree : Expr
 
+-- trees as candidates of one tag
 unfoldable pub tagged : ℕ → List Expr → List Candidate
 tagged n [] = []
 tagged n (t ∷ ts) = record { tag = n; tree = t } ∷ tagged n ts

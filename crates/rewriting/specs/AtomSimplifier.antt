@@ -10,10 +10,11 @@ use Rattle.expr.specs.Expr.{Constant, Variable, Unary, Not, Neg, Shr, ZExt, SEx
 use Rattle.expr.specs.SameWords.{sameWords}
 use Rattle.rewriting.specs.Optional.{onlyIf, map, _andThen_, _orElse_, _otherwise_, _equalsSome_}
 
--- the tree of one constant, and of a Not
+-- the tree of one constant
 abbrev pub constant : ℕ → Expr
 constant c = leaf (Constant c)
 
+-- the Not of a tree
 abbrev pub not : Expr → Expr
 not t = unary Not t
 
@@ -38,7 +39,8 @@ isNot (binary k l r) = false
 abbrev pub sameKind : Binary → Binary → Bool
 sameKind k j = eqb (binaryNumber k) (binaryNumber j)
 
--- all at the width w of the call
+-- all at the width w of the call. `constantVal` and `samePart` do not depend on it, since the fold compares whole words: they are the two places
+-- that say so
 module _ (w : ℕ) where
   -- `constant_val`: the word that a Constant holds, not masked to the width
   abbrev pub constantVal : Expr → Option ℕ
@@ -73,6 +75,7 @@ module _ (w : ℕ) where
 pub data Bitwise : Type 0 where
   and or xor : Bitwise
 
+-- the kind of the node
 abbrev pub kindOf : Bitwise → Binary
 kindOf and = And
 kindOf or = Or
@@ -201,10 +204,11 @@ pub record Site : Type 0 where
   pub path : List ℕ
   pub replacement : Expr
 
--- the root as a site, and a child's site by its path from the parent
+-- the root as a site
 abbrev pub here : Expr → Site
 here u = record { path = []; replacement = u }
 
+-- a child's site by its path from the parent, where the child has number i
 abbrev pub below : ℕ → Site → Site
 below i s = record { path = i ∷ s .path; replacement = s .replacement }
 
@@ -227,7 +231,7 @@ module _ (w : ℕ) where
       map (binary k l) (firstRewrite r) orElse
       localRewrite w (binary k l r)
 
--- the subtree at the end of a path; none where the tree has no such path
+-- the subtree at the end of a path; none where the tree has no such path. `first-site` of SiteLaws is stated with this and the next
 unfoldable pub subtreeAt : List ℕ → Expr → Option Expr
 subtreeAt [] t = some t
 subtreeAt (i ∷ path) (leaf k) = none

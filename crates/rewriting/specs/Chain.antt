@@ -27,9 +27,3 @@ treesFrom (suc k) w t = t ∷ (map (treesFrom k w) (firstRewrite w t) otherwise 
 -- the list from t on as a function: no list has more than n + 2 × D trees, and `trees-listed` of ChainLaws says that this is the list
 unfoldable pub treesOf : ℕ → Expr → List Expr
 treesOf w t = treesFrom (nodes t + 2 * D t) w t
-
-infix 4 _isAmong_
--- the element is one of the list
-pub data _isAmong_ {A : Type 0} : A → List A → Type 0 where
-  first : {a : A} {xs : List A} → a isAmong (a ∷ xs)
-  later : {a b : A} {xs : List A} → a isAmong xs → a isAmong (b ∷ xs)

@@ -16,12 +16,18 @@ use Rattle.rewriting.specs.Optional.{map, _otherwise_, _andThen_}
 use Rattle.rewriting.specs.OptionalLaws.{not-both, only-one}
 use Rattle.rewriting.specs.AtomSimplifier.{Site, firstSite, firstRewrite}
 use Rattle.rewriting.specs.Measures.{D, occurrences}
-use Rattle.rewriting.specs.Chain.{Listed, lastOf, treesFrom, treesOf, _isAmong_, first, later}
+use Rattle.rewriting.specs.Chain.{Listed, lastOf, treesFrom, treesOf}
 use Rattle.rewriting.specs.SiteLaws.{after, first-is, first-site}
 use Rattle.rewriting.specs.MeasureLaws.{first-lowers, D-small}
 use Rattle.rewriting.specs.KeptLaws.{first-keeps, first-variables, first-uniform, first-operands, first-lent, valid-kept}
 use Rattle.rewriting.specs.EndLaws.{Ends, ends-exist}
 use Rattle.rewriting.specs.NodesLaws.{ends-nodes}
+
+infix 4 _isAmong_
+-- the element is one of the list
+pub data _isAmong_ {A : Type 0} : A → List A → Type 0 where
+  first : {a : A} {xs : List A} → a isAmong (a ∷ xs)
+  later : {a b : A} {xs : List A} → a isAmong xs → a isAmong (b ∷ xs)
 
 module _ (w : ℕ) where
   -- ---- the list, its end and its count

@@ -22,7 +22,7 @@ use Rattle.value.specs.Value.{binaryValue, value}
 use Rattle.rewriting.specs.Optional.{onlyIf, map, _andThen_, _orElse_}
 use Rattle.rewriting.specs.OptionalLaws.{then-none, Every, if-case, every-onlyIf, every-unless, every-orElse, every-at, every-on, every-andThen, every-map-on, every-andThen-on}
 use Rattle.rewriting.specs.AtomSimplifier.{not, isNotKind, sameKind}
-use Rattle.rewriting.specs.AtomIdentityRewrite.{exprEq, operandsOf, operandOfNot, isNegKind, operandOfNeg, isNotOf, besideNotOf, matchBinaryAddWithNeg, xorAbsorbOne, matchXorAndAbsorb, sameUnorderedPair, xorOfOrAnd, matchXorViaOrMinusAnd, andOfOrNot, matchAndViaNotOrMinusNot, Addend, anyNegated, extract, only, plusAndMinus, isOr, orInProduct, isMasked, isOne, matchAndViaNotOrPlusAPlusOne, isMinusTwo, isMinusTwiceOr, matchXorViaOrnotFlat, isThere, orNotUnderNeg}
+use Rattle.rewriting.specs.AtomIdentityRewrite.{exprEq, operandsOf, operandOfNot, isNegKind, operandOfNeg, isNotOf, besideNotOf, matchBinaryAddWithNeg, xorAbsorbOne, matchXorAndAbsorb, sameUnorderedPair, xorOfOrAnd, matchXorViaOrMinusAnd, andOfOrNot, matchAndViaNotOrMinusNot, Addend, anyNegated, extract, only, plusAndMinus, asOr, orInProduct, isMasked, asOne, matchAndViaNotOrPlusAPlusOne, asMinusTwo, asMinusTwiceOr, matchXorViaOrnotFlat, isThere, orNotUnderNeg}
 use Rattle.rewriting.specs.TestLaws.{not-kind→eq, same-kind→eq}
 use Rattle.rewriting.specs.ShapeLaws.{_⊑_, as-it-is, both, swapped, in-turn}
 
@@ -271,7 +271,7 @@ module _ (w : ℕ) where
   abbrev pub MinusTwice : Expr × Expr → Addend → Type 0
   MinusTwice (l, r) a = T (a .negated) × Product (isMasked w 2) (a .expr) l r
 
-  minus-twice : (a : Addend) → Every (λ s. MinusTwice s a) (isMinusTwiceOr w a)
+  minus-twice : (a : Addend) → Every (λ s. MinusTwice s a) (asMinusTwiceOr w a)
   minus-twice a =
       if-case (Every (λ s. MinusTwice s a)) (a .negated)
       (λ n. every-on _ (λ s. MinusTwice s a) (orInProduct (isMasked w 2) (a .expr)) (λ s h. (n, h)) (or-in-product (isMasked w 2) (a .expr))) tt
@@ -286,8 +286,8 @@ module _ (w : ℕ) where
     unfolding matchAndViaNotOrPlusAPlusOne
     found-4 =
         every-unless PlusOne (bool.not (eqb (length xs) 3) || anyNegated xs) _ (λ n.
-        every-andThen-on PlusOne _ (extract (isOne w) xs) _ (took _ (isOne w) (λ b. passed (isMasked w 1 (b .expr)) (b .expr)) xs) (λ (one, ys) p.
-        every-andThen-on PlusOne _ (extract isOr ys) _ (took _ isOr (λ b. operands Or (b .expr)) ys) (λ ((l, r), zs) q.
+        every-andThen-on PlusOne _ (extract (asOne w) xs) _ (took _ (asOne w) (λ b. passed (isMasked w 1 (b .expr)) (b .expr)) xs) (λ (one, ys) p.
+        every-andThen-on PlusOne _ (extract asOr ys) _ (took _ asOr (λ b. operands Or (b .expr)) ys) (λ ((l, r), zs) q.
         every-andThen-on PlusOne _ (only zs) _ (the-only zs) (λ a e.
         every-map-on PlusOne _ (besideNotOf (a .expr) l r) (beside-not (a .expr) l r) (λ x h.
         plus-one (or-no (bool.not (eqb (length xs) 3)) (anyNegated xs) n .1) (p .has) (p .put)
@@ -303,9 +303,9 @@ module _ (w : ℕ) where
     unfolding matchXorViaOrnotFlat
     found-5 =
         if-case (Every OrNotFlat) (bool.not (eqb (length xs) 4)) (λ n. tt)
-        (every-andThen-on OrNotFlat _ (extract (isMinusTwo w) xs) _
-        (took _ (isMinusTwo w) (λ b. passed (b .negated && isMasked w 2 (b .expr)) (b .expr)) xs) (λ (two, ys) p.
-        every-andThen-on OrNotFlat _ (extract (isMinusTwiceOr w) ys) _ (took MinusTwice (isMinusTwiceOr w) minus-twice ys) (λ ((l, r), zs) q.
+        (every-andThen-on OrNotFlat _ (extract (asMinusTwo w) xs) _
+        (took _ (asMinusTwo w) (λ b. passed (b .negated && isMasked w 2 (b .expr)) (b .expr)) xs) (λ (two, ys) p.
+        every-andThen-on OrNotFlat _ (extract (asMinusTwiceOr w) ys) _ (took MinusTwice (asMinusTwiceOr w) minus-twice ys) (λ ((l, r), zs) q.
         every-andThen OrNotFlat (plusAndMinus zs) _ (λ (a, b) e.
         every-onlyIf OrNotFlat ((exprEq l a && isNotOf r b) || (exprEq r a && isNotOf l b)) (λ h.
         or-not-flat (p .has) (p .put) (q .has .0, product-on (q .has .1) (with-not l r a b h)) (q .put) e)))))
@@ -320,7 +320,7 @@ no-two (unary k t) = refl
 no-two (binary k l r) = refl
 
 -- no constant is 2 under the mask of one bit
-no-minus-two : (xs : List Addend) → extract (isMinusTwo 1) xs ≡ none
+no-minus-two : (xs : List Addend) → extract (asMinusTwo 1) xs ≡ none
 unfolding extract
 no-minus-two [] = refl
 no-minus-two (a ∷ xs) =
@@ -332,7 +332,7 @@ no-minus-two (a ∷ xs) =
 
 pub no-tag-5-at-1 : (xs : List Addend) → matchXorViaOrnotFlat 1 xs ≡ none
 unfolding matchXorViaOrnotFlat
-no-tag-5-at-1 xs = either (eqb (length xs) 4) (then-none (extract (isMinusTwo 1) xs) _ (no-minus-two xs))
+no-tag-5-at-1 xs = either (eqb (length xs) 4) (then-none (extract (asMinusTwo 1) xs) _ (no-minus-two xs))
   where
     either : (b : Bool) {o : Option Expr} → o ≡ none → (if bool.not b then none else o) ≡ none
     either true e = e

@@ -31,8 +31,8 @@ binaryValue w Or x y = bvor x y
 binaryValue w Xor x y = bvxor x y
 binaryValue w Concat x y = 0
 
--- the value of a tree at width w and a list σ of the variables' words: a leaf's word is taken modulo 2 ^ w, and a variable without a word counts as 0 until
--- `valueAt` refuses the tree
+-- the value of a tree at width w and a list σ of the variables' words: a leaf's word is taken modulo 2 ^ w. A variable without a word counts as 0
+-- here; `valueAt` refuses such a tree
 unfoldable pub value : ℕ → List ℕ → Expr → ℕ
 value w σ (leaf (Constant c)) = c % 2 ^ w
 value w σ (leaf (Variable i)) = getD σ i 0 % 2 ^ w

@@ -33,6 +33,7 @@ struct ValueRead {
     valued: Valued,
 }
 
+// The value of a leaf, and whether it has its word.
 fn leaf_valued(kind: u64, operand: u64, width: u32, setting: &[u64]) -> Valued
     requires { ⌜ width ≤ 64 ⌝ }
     ensures { λ r. ⌜ ((k : Leaf) → kind ≡ leafNumber k → operand ≡ leafOperand k → r ≡ valued width (now (setting .entry)) (leaf k)) ⌝ }

@@ -1,4 +1,4 @@
-//! Stands in for `orchestrator`. The harness reads the path of a site. `match_and_via_ornot_lax` puts hashes into a set that nobody reads, so
+//! Stands in for `orchestrator`. The harness reads the path of a site. `match_and_via_ornot_lax` puts hashes into a set that nothing reads, so
 //! each is 0. All else is named by functions that no request calls: certificates, and the pass around the matchers.
 use crate::core::expr::Expr;
 use crate::core::pass_contract::ReasonDetail;
