@@ -2,18 +2,11 @@
 use mathlib.Core.Path.{_≡_, refl, sym, ap, ap₂, _∙_}
 use mathlib.Core.List.{List, _++_}
 use Prim.Native.Nat.{ℕ, suc, _+_, _≤_, _<_, min}
-use native.Mathlib.Nat.{min-eq-left, min-eq-right}
 use native.Mathlib.Decide.{decLe}
 use native.Mathlib.Omega.{arith}
 use lib.ListN.{length, take, drop, getD, set, length-set, length-take}
 use lib.Seq.{paste, paste-zero, paste-suc, take-all}
 use Rattle.expr.specs.Lent.{over}
-
-pub first-shorter : (a b : ℕ) → a < b → a ≡ min a b
-first-shorter a b h = sym (min-eq-left (omega arith))
-
-pub second-shorter : (a b : ℕ) → b ≤ a → b ≡ min a b
-second-shorter a b h = sym (min-eq-right h)
 
 -- after i turns the first i words are copied
 pub record Copying (words before after : List ℕ) (n i : ℕ) : Type 0 where
@@ -61,4 +54,4 @@ module _ (words before : List ℕ) (n : ℕ) (s : n ≡ min (length words) (leng
 pub copied-long : (words before after : List ℕ) (n i : ℕ) → Copying words before after n i → length after ≡ length before
 copied-long words before after n i c = c .long
 
-pub ruleset copying = (first-shorter, second-shorter, none-copied, copy-reads, copy-writes, one-copied, all-copied, copied-long)
+pub ruleset copying = (none-copied, copy-reads, copy-writes, one-copied, all-copied, copied-long)

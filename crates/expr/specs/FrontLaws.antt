@@ -254,6 +254,39 @@ no-kind ws a e s r g n P = absurd (let z = told ws a e (s .tree) (s .front) in l
 -- what every need of a call on a child's part is found by
 pub ruleset walk = (has-node, has-kind, has-operand, child-falls, right-falls, child-starts, left-starts, right-starts, left-within, leaf-spans, unary-spans, binary-spans, unary-fits, both-fit, binary-fits, right-scaled, no-kind)
 
+-- ---- what holds of a node, from what the calls have found of its children
+
+module _ (ws : List ℕ) (a : Arity) (e : arityOutcome a ≡ arityOf (getD ws 0 0)) (t : Expr) (f : Front ws t) where
+  module _ (P : Expr → Type 0) where
+    pub leaf-holds : a ≡ Zero → ((k : Leaf) → getD ws 0 0 ≡ leafNumber k → getD ws 1 0 ≡ leafOperand k → P (leaf k)) → P t
+    leaf-holds g h = let n = leaf-node ws a e t g f in subst P (sym (n .is)) (h (n .kind) (n .number-is) (n .operand-is))
+
+    pub unary-holds : (Q : Expr → Type 0) (m : ℕ) → a ≡ One → Read (tail 2 ws) m Q
+        → ((k : Unary) (u : Expr) → getD ws 0 0 ≡ unaryNumber k → getD ws 1 0 ≡ unaryOperand k → Q u → P (unary k u)) → P t
+    unary-holds Q m g q h =
+        let n = unary-node ws a e t g f in
+        subst P (sym (n .is)) (h (n .kind) (n .child) (n .number-is) (n .operand-is) (q .holds (n .child) (n .below)))
+
+    pub binary-holds : (Q R : Expr → Type 0) (l m : ℕ) → a ≡ Two → Read (tail 2 ws) l Q → Read (tail l (tail 2 ws)) m R
+        → ((k : Binary) (u v : Expr) → getD ws 0 0 ≡ binaryNumber k → Q u → R v → P (binary k u v)) → P t
+    binary-holds Q R l m g q r h =
+        let n = binary-node ws a e t g f in
+        subst P (sym (n .is))
+        (h (n .kind) (n .left) (n .right) (n .number-is) (q .holds (n .left) (n .left-below)) (r .holds (n .right) (right-front ws a e l (q .spans) g t f)))
+
+  -- the same, where it is an equation
+  module _ {A : Type 0} (d : Expr → A) (y : A) where
+    pub leaf-gives : a ≡ Zero → ((k : Leaf) → getD ws 0 0 ≡ leafNumber k → getD ws 1 0 ≡ leafOperand k → y ≡ d (leaf k)) → Gives d y t
+    leaf-gives g h = leaf-holds (Gives d y) g (λ k i j. record { is = h k i j })
+
+    pub unary-gives : (m : ℕ) (x : A) → a ≡ One → Read (tail 2 ws) m (Gives d x)
+        → ((k : Unary) (u : Expr) → getD ws 0 0 ≡ unaryNumber k → getD ws 1 0 ≡ unaryOperand k → x ≡ d u → y ≡ d (unary k u)) → Gives d y t
+    unary-gives m x g q h = unary-holds (Gives d y) (Gives d x) m g q (λ k u i j b. record { is = h k u i j (b .is) })
+
+    pub binary-gives : (l m : ℕ) (x z : A) → a ≡ Two → Read (tail 2 ws) l (Gives d x) → Read (tail l (tail 2 ws)) m (Gives d z)
+        → ((k : Binary) (u v : Expr) → getD ws 0 0 ≡ binaryNumber k → x ≡ d u → z ≡ d v → y ≡ d (binary k u v)) → Gives d y t
+    binary-gives l m x z g q r h = binary-holds (Gives d y) (Gives d x) (Gives d z) l m g q r (λ k u v i b c. record { is = h k u v i (b .is) (c .is) })
+
 -- ---- a whole list of words, once it is checked
 
 pub parse-front : (ws : List ℕ) (t : Expr) → parse ws ≡ accepted t → Front ws t

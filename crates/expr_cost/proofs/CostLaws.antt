@@ -15,11 +15,11 @@ use Rattle.expr.specs.ExprLaws.{depth-nodes, length-encode}
 use Rattle.expr.specs.ExprUtils.{hasVarDep}
 use Rattle.expr.specs.Parse.{arityOf}
 use Rattle.expr.specs.declared.Arity.{Arity}
-use Rattle.expr.specs.declared.Arity.the-variants.{Zero, One, Two}
+use Rattle.expr.specs.declared.Arity.the-variants.{Zero, One}
 use Rattle.expr.specs.Answers.{arityOutcome}
 use Rattle.expr.specs.Parts.{tail}
 use Rattle.expr.specs.Front.{Front, Starts, Read, Gives}
-use Rattle.expr.specs.FrontLaws.{leaf-node, unary-node, binary-node, right-front}
+use Rattle.expr.specs.FrontLaws.{leaf-gives, unary-gives}
 use Rattle.expr_cost.specs.declared.CostInfo.{CostInfo}
 use Rattle.expr_cost.specs.ExprCost.{isNonlinear, ownWeight, weightedSize, nonlinearMulCount, computeCost}
 use Rattle.expr_cost.specs.Contracts.{Small}
@@ -130,20 +130,8 @@ small-cost ws n c p s h =
 
 module _ (ws : List ℕ) (a : Arity) (e : arityOutcome a ≡ arityOf (getD ws 0 0)) (t : Expr) (f : Front ws t) (c : CostInfo) where
   pub leaf-case : a ≡ Zero → ((k : Leaf) → getD ws 0 0 ≡ leafNumber k → c ≡ computeCost (leaf k)) → Gives computeCost c t
-  leaf-case g h = let n = leaf-node ws a e t g f in record { is = h (n .kind) (n .number-is) ∙ ap computeCost (sym (n .is)) }
+  leaf-case g h = leaf-gives ws a e t f computeCost c g (λ k i j. h k i)
 
   pub unary-case : (m : ℕ) (x : CostInfo) → a ≡ One → Read (tail 2 ws) m (Gives computeCost x) → ((k : Unary) (u : Expr) → x ≡ computeCost u → c ≡ computeCost (unary k u))
       → Gives computeCost c t
-  unary-case m x g p h =
-      let n = unary-node ws a e t g f in
-      record { is = h (n .kind) (n .child) (p .holds (n .child) (n .below) .is) ∙ ap computeCost (sym (n .is)) }
-
-  pub binary-case : (l m : ℕ) (x y : CostInfo) → a ≡ Two → Read (tail 2 ws) l (Gives computeCost x) → Read (tail l (tail 2 ws)) m (Gives computeCost y)
-      → ((k : Binary) (u v : Expr) → getD ws 0 0 ≡ binaryNumber k → x ≡ computeCost u → y ≡ computeCost v → c ≡ computeCost (binary k u v)) → Gives computeCost c t
-  binary-case l m x y g p q h =
-      let n = binary-node ws a e t g f in
-      record {
-        is =
-            h (n .kind) (n .left) (n .right) (n .number-is) (p .holds (n .left) (n .left-below) .is) (q .holds (n .right) (right-front ws a e l (p .spans) g t f) .is)
-            ∙ ap computeCost (sym (n .is));
-      }
+  unary-case m x g p h = unary-gives ws a e t f computeCost c m x g p (λ k u i j. h k u)

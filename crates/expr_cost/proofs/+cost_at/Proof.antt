@@ -4,9 +4,9 @@ use lib.ListN.{length}
 use borrow.Author.Needs.{needs}
 use borrow.Fn.Kinds.{In}
 use borrow.Fn.PlainCycle.{Measures, is, falls, and}
-use Rattle.expr.specs.FrontLaws.{walk}
+use Rattle.expr.specs.FrontLaws.{walk, binary-gives}
 use Rattle.expr.specs.PartLaws.{tail-short}
-use Rattle.expr_cost.proofs.CostLaws.{small-cost, leaf-case, unary-case, binary-case}
+use Rattle.expr_cost.proofs.CostLaws.{small-cost, leaf-case, unary-case}
 use Rattle.expr_cost.proofs.cost_at.Reads as fn
 use Rattle.expr_cost.proofs.cost_at.Kinds as kinds
 use Rattle.expr_cost.proofs.+cost_at.Lts-cost_at as lts
@@ -29,7 +29,7 @@ below t = and 1 kinds.ps (falls 1 kinds.ps _<_ μ t) fn.Pre
 abbrev claims : ℕ → lts.Claims
 claims t = (arity-of.Asked, arity-of.Learnt, leaf-cost.Asked, leaf-cost.Learnt, below t, fn.Post, unary-cost.Asked, unary-cost.Learnt, binary-cost.Asked, binary-cost.Learnt)
 
-ruleset rules = (needs, walk, tail-short, small-cost, leaf-case, unary-case, binary-case)
+ruleset rules = (needs, walk, tail-short, small-cost, leaf-case, unary-case, binary-gives)
 
 pub +cost-at-spec : {M : Type 1} → statement M
 +cost-at-spec = close μ λ t. lts.spec (claims t) (at t) fn.Post
