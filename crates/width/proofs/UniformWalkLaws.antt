@@ -8,13 +8,13 @@ use lib.Dec.{ltb, eqb}
 use lib.ListN.{getD}
 use borrow.Author.Tests.{not-true, not-false, eq-eqb, ne-eqb, lt-ltb, le-ltb}
 use Rattle.expr.specs.declared.Arity.{Arity}
-use Rattle.expr.specs.declared.Arity.the-variants.{Zero, One, Two}
+use Rattle.expr.specs.declared.Arity.the-variants.{One, Two}
 use Rattle.expr.specs.Expr.{Leaf, Constant, Variable, Unary, Not, Neg, Shr, ZExt, SExt, Trunc, Binary, Add, Mul, And, Or, Xor, Concat, Expr, leaf, leafNumber, leafOperand, unaryNumber, binaryNumber}
 use Rattle.expr.specs.Parse.{arityOf}
 use Rattle.expr.specs.Answers.{arityOutcome}
 use Rattle.expr.specs.Front.{Front, Read, Gives}
 use Rattle.expr.specs.Parts.{tail}
-use Rattle.expr.specs.FrontLaws.{leaf-node, unary-node, binary-node, right-front}
+use Rattle.expr.specs.FrontLaws.{unary-gives, binary-gives}
 use Rattle.width.specs.Width.{unaryKeeps, binaryKeeps, isUniformWidth}
 
 -- ---- the node
@@ -74,24 +74,13 @@ module _ (kind : ℕ) (k : Binary) (e : kind ≡ binaryNumber k) (l r : Bool) wh
 -- ---- the walk
 
 module _ (ws : List ℕ) (a : Arity) (e : arityOutcome a ≡ arityOf (getD ws 0 0)) (widths : List ℕ) (w : ℕ) (t : Expr) (f : Front ws t) (b : Bool) where
-  pub leaf-uniform : a ≡ Zero → ((k : Leaf) → getD ws 0 0 ≡ leafNumber k → getD ws 1 0 ≡ leafOperand k → b ≡ isUniformWidth widths w (leaf k)) → Gives (isUniformWidth widths w) b t
-  leaf-uniform g h = let n = leaf-node ws a e t g f in record { is = h (n .kind) (n .number-is) (n .operand-is) ∙ ap (isUniformWidth widths w) (sym (n .is)) }
-
   pub unary-uniform : (m : ℕ) (c : Bool) → a ≡ One → Read (tail 2 ws) m (Gives (isUniformWidth widths w) c) → ((k : Unary) → getD ws 0 0 ≡ unaryNumber k → b ≡ (unaryKeeps k && c))
       → Gives (isUniformWidth widths w) b t
   unfolding isUniformWidth
-  unary-uniform m c g h i =
-      let n = unary-node ws a e t g f in
-      record { is = i (n .kind) (n .number-is) ∙ ap (λ (x : Bool). unaryKeeps (n .kind) && x) (h .holds (n .child) (n .below) .is) ∙ ap (isUniformWidth widths w) (sym (n .is)) }
+  unary-uniform m c g q h = unary-gives ws a e t f (isUniformWidth widths w) b m c g q (λ k u i j z. h k i ∙ ap (λ (x : Bool). unaryKeeps k && x) z)
 
   pub binary-uniform : (l m : ℕ) (c d : Bool) → a ≡ Two → Read (tail 2 ws) l (Gives (isUniformWidth widths w) c) → Read (tail l (tail 2 ws)) m (Gives (isUniformWidth widths w) d)
       → ((k : Binary) → getD ws 0 0 ≡ binaryNumber k → b ≡ (binaryKeeps k && (c && d))) → Gives (isUniformWidth widths w) b t
   unfolding isUniformWidth
-  binary-uniform l m c d g h i j =
-      let n = binary-node ws a e t g f in
-      record {
-        is =
-            j (n .kind) (n .number-is)
-            ∙ ap₂ (λ (x y : Bool). binaryKeeps (n .kind) && (x && y)) (h .holds (n .left) (n .left-below) .is) (i .holds (n .right) (right-front ws a e l (h .spans) g t f) .is)
-            ∙ ap (isUniformWidth widths w) (sym (n .is));
-      }
+  binary-uniform l m c d g q r h =
+      binary-gives ws a e t f (isUniformWidth widths w) b l m c d g q r (λ k u v i y z. h k i ∙ ap₂ (λ (x x′ : Bool). binaryKeeps k && (x && x′)) y z)

@@ -1,5 +1,5 @@
 -- What the walks have found of the tree at the front of the words. Assumes nothing.
-use mathlib.Core.Path.{_≡_, sym, ap, subst, _∙_}
+use mathlib.Core.Path.{_≡_, sym, ap, _∙_}
 use mathlib.Core.Bool.{Bool, true, false, not}
 use mathlib.Core.List.{List}
 use Prim.Native.Nat.{ℕ}
@@ -20,7 +20,7 @@ use Rattle.expr.specs.Parse.{arityOf, parse}
 use Rattle.expr.specs.Answers.{arityOutcome, countedOutcome}
 use Rattle.expr.specs.Front.{Front, Starts, Read}
 use Rattle.expr.specs.Parts.{tail}
-use Rattle.expr.specs.FrontLaws.{leaf-node, unary-node, binary-node, right-front, parse-front, IsTree, is-tree}
+use Rattle.expr.specs.FrontLaws.{unary-node, leaf-holds, unary-holds, binary-holds, parse-front, IsTree, is-tree}
 use Rattle.width.specs.declared.Widths.{Widths}
 use Rattle.width.specs.Width.{supported, ranged, checkedWidthOf, orZero, widthOf, validateWidths}
 use Rattle.width.specs.Answers.{validityOutcome}
@@ -33,22 +33,17 @@ module _ (ws : List ℕ) (a : Arity) (e : arityOutcome a ≡ arityOf (getD ws 0 
 
   module _ (widths : List ℕ) (d : ℕ) (t : Expr) (f : Front ws t) (found : Widths) where
     pub leaf-found : a ≡ Zero → ((k : Leaf) → getD ws 0 0 ≡ leafNumber k → getD ws 1 0 ≡ leafOperand k → WidthsOf widths d found (leaf k)) → WidthsOf widths d found t
-    leaf-found g h = let n = leaf-node ws a e t g f in subst (WidthsOf widths d found) (sym (n .is)) (h (n .kind) (n .number-is) (n .operand-is))
+    leaf-found = leaf-holds ws a e t f (WidthsOf widths d found)
 
     pub unary-found : (m : ℕ) (child : Widths) → a ≡ One → Read (tail 2 ws) m (WidthsOf widths d child)
         → ((vs : List ℕ) (n : ℕ) (k : Unary) (u : Expr) → getD ws 0 0 ≡ unaryNumber k → getD ws 1 0 ≡ unaryOperand k → WidthsOf vs n child u → WidthsOf vs n found (unary k u))
         → WidthsOf widths d found t
-    unary-found m child g h i =
-        let n = unary-node ws a e t g f in
-        subst (WidthsOf widths d found) (sym (n .is)) (i widths d (n .kind) (n .child) (n .number-is) (n .operand-is) (h .holds (n .child) (n .below)))
+    unary-found m child g q h = unary-holds ws a e t f (WidthsOf widths d found) (WidthsOf widths d child) m g q (h widths d)
 
     pub binary-found : (l m : ℕ) (left right : Widths) → a ≡ Two → Read (tail 2 ws) l (WidthsOf widths d left) → Read (tail l (tail 2 ws)) m (WidthsOf widths d right)
         → ((vs : List ℕ) (n : ℕ) (k : Binary) (u v : Expr) → getD ws 0 0 ≡ binaryNumber k → WidthsOf vs n left u → WidthsOf vs n right v → WidthsOf vs n found (binary k u v))
         → WidthsOf widths d found t
-    binary-found l m left right g h i j =
-        let b = binary-node ws a e t g f in
-        subst (WidthsOf widths d found) (sym (b .is))
-        (j widths d (b .kind) (b .left) (b .right) (b .number-is) (h .holds (b .left) (b .left-below)) (i .holds (b .right) (right-front ws a e l (h .spans) g t f)))
+    binary-found l m left right g q r h = binary-holds ws a e t f (WidthsOf widths d found) (WidthsOf widths d left) (WidthsOf widths d right) l m g q r (h widths d)
 
 -- ---- what the calls answer
 

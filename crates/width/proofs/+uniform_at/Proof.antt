@@ -4,8 +4,8 @@ use lib.ListN.{length}
 use borrow.Author.Needs.{needs}
 use borrow.Fn.Kinds.{In}
 use borrow.Fn.PlainCycle.{Measures, is, falls, and}
-use Rattle.expr.specs.FrontLaws.{walk}
-use Rattle.width.proofs.UniformWalkLaws.{leaf-uniform, unary-uniform, binary-uniform}
+use Rattle.expr.specs.FrontLaws.{walk, leaf-gives}
+use Rattle.width.proofs.UniformWalkLaws.{unary-uniform, binary-uniform}
 use Rattle.width.proofs.uniform_at.Reads as fn
 use Rattle.width.proofs.uniform_at.Kinds as kinds
 use Rattle.width.proofs.+uniform_at.Lts-uniform_at as lts
@@ -28,7 +28,7 @@ below t = and 2 kinds.ps (falls 2 kinds.ps _<_ μ t) fn.Pre
 abbrev claims : ℕ → lts.Claims
 claims t = (arity-of.Asked, arity-of.Learnt, leaf-uniform.Asked, leaf-uniform.Learnt, below t, fn.Post, unary-uniform.Asked, unary-uniform.Learnt, binary-uniform.Asked, binary-uniform.Learnt)
 
-ruleset rules = (needs, walk, leaf-uniform, unary-uniform, binary-uniform)
+ruleset rules = (needs, walk, leaf-gives, unary-uniform, binary-uniform)
 
 pub +uniform-at-spec : {M : Type 1} → statement M
 +uniform-at-spec = close μ λ t. lts.spec (claims t) (at t) fn.Post
