@@ -1,8 +1,9 @@
 -- Words that are checked at a width. Assumes nothing.
-use mathlib.Core.Path.{_≡_, sym}
-use mathlib.Core.Bool.{false}
+use mathlib.Core.Path.{_≡_, sym, _∙_}
+use mathlib.Core.Bool.{Bool, true, false, not}
 use mathlib.Core.List.{List}
-use Prim.Native.Nat.{ℕ, _≤_, _<_}
+use Prim.Native.Nat.{ℕ}
+use borrow.Author.Tests.{not-true, not-false}
 use Rattle.expr.specs.declared.Counted.{Counted}
 use Rattle.expr.specs.Refusals.{refusal}
 use Rattle.expr.specs.Outcome.{refused, mapped}
@@ -10,22 +11,15 @@ use Rattle.expr.specs.Expr.{nodes}
 use Rattle.expr.specs.Parse.{parse}
 use Rattle.expr.specs.Answers.{countedOutcome}
 use Rattle.width.specs.Width.{supported}
-use Rattle.width.specs.WidthLaws.{in-range, too-narrow, too-wide}
 use Rattle.width.specs.Checked.{checked}
 
-module _ (w : ℕ) (ws : List ℕ) where
-  refused-1 : supported w ≡ false → refused (refusal 1) ≡ mapped nodes (checked w ws)
+module _ (w : ℕ) (ws : List ℕ) (b : Bool) (e : b ≡ supported w) where
+  pub out-of-range : not b ≡ true → refused (refusal 1) ≡ mapped nodes (checked w ws)
   unfolding checked
-  refused-1 e = rw e
+  out-of-range f = rw (sym e ∙ not-true b f)
 
-  pub narrow-refused : w < 1 → refused (refusal 1) ≡ mapped nodes (checked w ws)
-  narrow-refused h = refused-1 (sym (too-narrow w h))
-
-  pub wide-refused : 1 ≤ w → 65 ≤ w → refused (refusal 1) ≡ mapped nodes (checked w ws)
-  wide-refused p h = refused-1 (sym (too-wide w p h))
-
-  pub words-checked : 1 ≤ w → w < 65 → (x : Counted) → countedOutcome x ≡ mapped nodes (parse ws) → countedOutcome x ≡ mapped nodes (checked w ws)
+  pub words-checked : not b ≡ false → (x : Counted) → countedOutcome x ≡ mapped nodes (parse ws) → countedOutcome x ≡ mapped nodes (checked w ws)
   unfolding checked
-  words-checked p q x e = rw (sym (in-range w p q)) e
+  words-checked f x g = rw (sym e ∙ not-false b f) g
 
-pub ruleset checking = (narrow-refused, wide-refused, words-checked)
+pub ruleset checking = (out-of-range, words-checked)

@@ -385,8 +385,8 @@ pub fn is_uniform_width(words: &[u64], var_widths: &[u32], w: u32) -> Verdict
 pub fn check_tree_at(words: &[u64], width: u32) -> Counted
     ensures { λ r. ⌜ countedOutcome r ≡ mapped nodes (checked width (now (words .entry))) ⌝ }
 {
-    match width {
-        1..=64 => expr::check_tree(words),
-        _ => Counted::Refused(Refusal::WidthOutOfRange),
+    if !is_supported(width) {
+        return Counted::Refused(Refusal::WidthOutOfRange);
     }
+    expr::check_tree(words)
 }
