@@ -8,7 +8,7 @@ use lib.ListN.{length, getD}
 use borrow.Author.Tests.{not-true, not-false}
 use Rattle.expr.specs.declared.refusal.Refusal.{Refusal}
 use Rattle.expr.specs.declared.Arity.{Arity}
-use Rattle.expr.specs.declared.Arity.the-variants.{Zero, One, Two}
+use Rattle.expr.specs.declared.Arity.the-variants.{One, Two}
 use Rattle.expr.specs.declared.Counted.{Counted}
 use Rattle.expr.specs.declared.Counted.the-variants as counted
 use Rattle.expr.specs.declared.Verdict.{Verdict}
@@ -16,14 +16,14 @@ use Rattle.expr.specs.declared.Verdict.the-variants as verdict
 use Rattle.expr.specs.Refusals.{refusal, reasonOf}
 use Rattle.expr.specs.Outcome.{refused, accepted, mapped, _andThen_}
 use Rattle.expr.specs.OutcomeLaws.{then-accepted, refused-then, Made, mapped-made}
-use Rattle.expr.specs.Expr.{Leaf, Unary, Binary, Expr, leaf, unary, binary, nodes, leafNumber, leafOperand, unaryNumber, unaryOperand, binaryNumber}
+use Rattle.expr.specs.Expr.{Unary, Binary, Expr, unary, binary, nodes, unaryNumber, unaryOperand, binaryNumber}
 use Rattle.expr.specs.ExprLaws.{length-encode}
 use Rattle.expr.specs.Parse.{arityOf, parse}
 use Rattle.expr.specs.ParseLaws.{parse-sound}
 use Rattle.expr.specs.Answers.{arityOutcome, countedOutcome, verdictOutcome}
 use Rattle.expr.specs.Front.{Front, Starts, Read, Gives}
 use Rattle.expr.specs.Parts.{tail}
-use Rattle.expr.specs.FrontLaws.{leaf-node, unary-node, binary-node, right-front, parse-front}
+use Rattle.expr.specs.FrontLaws.{unary-gives, binary-gives, parse-front}
 use Rattle.width.specs.Width.{supported, isUniformWidth}
 use Rattle.width.specs.WidthLaws.{in-range, too-narrow, too-wide}
 use Rattle.width.specs.Checked.{checked}
@@ -35,26 +35,15 @@ use Rattle.value.specs.Contracts.{valued}
 -- ---- the walk
 
 module _ (ws : List ℕ) (a : Arity) (e : arityOutcome a ≡ arityOf (getD ws 0 0)) (w : ℕ) (σ : List ℕ) (t : Expr) (f : Front ws t) (v : Valued) where
-  pub leaf-given : a ≡ Zero → ((k : Leaf) → getD ws 0 0 ≡ leafNumber k → getD ws 1 0 ≡ leafOperand k → v ≡ valued w σ (leaf k)) → Gives (valued w σ) v t
-  leaf-given g h = let n = leaf-node ws a e t g f in record { is = h (n .kind) (n .number-is) (n .operand-is) ∙ ap (valued w σ) (sym (n .is)) }
-
   pub unary-given : (m : ℕ) (child : Valued) → a ≡ One → Read (tail 2 ws) m (Gives (valued w σ) child)
       → ((τ : List ℕ) (k : Unary) (u : Expr) → getD ws 0 0 ≡ unaryNumber k → getD ws 1 0 ≡ unaryOperand k → child ≡ valued w τ u → v ≡ valued w τ (unary k u))
       → Gives (valued w σ) v t
-  unary-given m child g h i =
-      let n = unary-node ws a e t g f in
-      record { is = i σ (n .kind) (n .child) (n .number-is) (n .operand-is) (h .holds (n .child) (n .below) .is) ∙ ap (valued w σ) (sym (n .is)) }
+  unary-given m child g q h = unary-gives ws a e t f (valued w σ) v m child g q (h σ)
 
   pub binary-given : (l m : ℕ) (left right : Valued) → a ≡ Two → Read (tail 2 ws) l (Gives (valued w σ) left) → Read (tail l (tail 2 ws)) m (Gives (valued w σ) right)
       → ((τ : List ℕ) (k : Binary) (u s : Expr) → getD ws 0 0 ≡ binaryNumber k → left ≡ valued w τ u → right ≡ valued w τ s → v ≡ valued w τ (binary k u s))
       → Gives (valued w σ) v t
-  binary-given l m left right g h i j =
-      let n = binary-node ws a e t g f in
-      record {
-        is =
-            j σ (n .kind) (n .left) (n .right) (n .number-is) (h .holds (n .left) (n .left-below) .is) (i .holds (n .right) (right-front ws a e l (h .spans) g t f) .is)
-            ∙ ap (valued w σ) (sym (n .is));
-      }
+  binary-given l m left right g q r h = binary-gives ws a e t f (valued w σ) v l m left right g q r (h σ)
 
 -- ---- the entry check
 

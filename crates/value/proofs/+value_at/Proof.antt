@@ -4,8 +4,8 @@ use lib.ListN.{length}
 use borrow.Author.Needs.{needs}
 use borrow.Fn.Kinds.{In}
 use borrow.Fn.PlainCycle.{Measures, is, falls, and}
-use Rattle.expr.specs.FrontLaws.{walk}
-use Rattle.value.proofs.WalkLaws.{leaf-given, unary-given, binary-given}
+use Rattle.expr.specs.FrontLaws.{walk, leaf-gives}
+use Rattle.value.proofs.WalkLaws.{unary-given, binary-given}
 use Rattle.value.proofs.value_at.Reads as fn
 use Rattle.value.proofs.value_at.Kinds as kinds
 use Rattle.value.proofs.+value_at.Lts-value_at as lts
@@ -28,7 +28,7 @@ below t = and 2 kinds.ps (falls 2 kinds.ps _<_ μ t) fn.Pre
 abbrev claims : ℕ → lts.Claims
 claims t = (arity-of.Asked, arity-of.Learnt, leaf-valued.Asked, leaf-valued.Learnt, below t, fn.Post, unary-valued.Asked, unary-valued.Learnt, binary-valued.Asked, binary-valued.Learnt)
 
-ruleset rules = (needs, walk, leaf-given, unary-given, binary-given)
+ruleset rules = (needs, walk, leaf-gives, unary-given, binary-given)
 
 pub +value-at-spec : {M : Type 1} → statement M
 +value-at-spec = close μ λ t. lts.spec (claims t) (at t) fn.Post
