@@ -5,14 +5,14 @@ use Prim.Native.Nat.{ℕ, _+_, _≤_, _<_}
 use native.Mathlib.Omega.{arith}
 use lib.ListN.{length, getD, length-append}
 use Rattle.expr.specs.declared.Arity.{Arity}
-use Rattle.expr.specs.declared.Arity.the-variants.{Zero, One, Two}
+use Rattle.expr.specs.declared.Arity.the-variants.{Zero, One}
 use Rattle.expr.specs.Expr.{Unary, Not, Neg, Shr, ZExt, SExt, Trunc, Binary, Add, Mul, And, Or, Xor, Concat, Expr, unary, binary, unaryNumber, binaryNumber, encode, nodes}
 use Rattle.expr.specs.ExprLaws.{length-encode}
 use Rattle.expr.specs.Parse.{arityOf}
 use Rattle.expr.specs.Answers.{arityOutcome}
 use Rattle.expr.specs.Parts.{tail}
 use Rattle.expr.specs.Front.{Front, Starts, Read, Gives}
-use Rattle.expr.specs.FrontLaws.{leaf-node, unary-node, binary-node, right-front}
+use Rattle.expr.specs.FrontLaws.{leaf-gives, unary-gives}
 use Rattle.rewriting.specs.Measures.{andOr, andOrs, pairs, D}
 use Rattle.rewriting.specs.MeasureLaws.{and-ors-nodes, D-small}
 use Rattle.atom_simplifier.specs.declared.chain.Pairs.{Pairs}
@@ -105,24 +105,11 @@ module _ (kind : ℕ) (l r : Pairs) (k : Binary) (t u : Expr) (e : kind ≡ bina
 module _ (ws : List ℕ) (a : Arity) (e : arityOutcome a ≡ arityOf (getD ws 0 0)) (t : Expr) (f : Front ws t) where
   pub leaf-counted : a ≡ Zero → Gives counted (record { «and_ors» = 0; pairs = 0 }) t
   unfolding counted andOrs D
-  leaf-counted g = record { is = ap counted (sym (leaf-node ws a e t g f .is)) }
+  leaf-counted g = leaf-gives ws a e t f counted (record { «and_ors» = 0; pairs = 0 }) g (λ k i j. refl)
 
-  module _ (v : Pairs) where
-    pub unary-counted : (m : ℕ) (child : Pairs) → a ≡ One → Read (tail 2 ws) m (Gives counted child)
-        → ((k : Unary) (u : Expr) → getD ws 0 0 ≡ unaryNumber k → child ≡ counted u → v ≡ counted (unary k u)) → Gives counted v t
-    unary-counted m child g h i =
-        let n = unary-node ws a e t g f in
-        record { is = i (n .kind) (n .child) (n .number-is) (h .holds (n .child) (n .below) .is) ∙ ap counted (sym (n .is)) }
-
-    pub binary-counted : (l m : ℕ) (left right : Pairs) → a ≡ Two → Read (tail 2 ws) l (Gives counted left) → Read (tail l (tail 2 ws)) m (Gives counted right)
-        → ((k : Binary) (u s : Expr) → getD ws 0 0 ≡ binaryNumber k → left ≡ counted u → right ≡ counted s → v ≡ counted (binary k u s)) → Gives counted v t
-    binary-counted l m left right g h i j =
-        let n = binary-node ws a e t g f in
-        record {
-          is =
-              j (n .kind) (n .left) (n .right) (n .number-is) (h .holds (n .left) (n .left-below) .is) (i .holds (n .right) (right-front ws a e l (h .spans) g t f) .is)
-              ∙ ap counted (sym (n .is));
-        }
+  pub unary-counted : (v : Pairs) (m : ℕ) (child : Pairs) → a ≡ One → Read (tail 2 ws) m (Gives counted child)
+      → ((k : Unary) (u : Expr) → getD ws 0 0 ≡ unaryNumber k → child ≡ counted u → v ≡ counted (unary k u)) → Gives counted v t
+  unary-counted v m child g q h = unary-gives ws a e t f counted v m child g q (λ k u i j. h k u i)
 
 -- what is found of a tree of at most 1,024 words is small
 module _ (ws : List ℕ) (s : Starts ws) (h : length ws ≤ 1024) (m : ℕ) (v : Pairs) (r : Read ws m (Gives counted v)) where
@@ -137,4 +124,4 @@ module _ (ws : List ℕ) (s : Starts ws) (h : length ws ≤ 1024) (m : ℕ) (v :
   unfolding counted
   pairs-small = omega (arith, few, D-small (s .tree) (omega (arith, few)), ap (λ (p : Pairs). p .pairs) (r .holds (s .tree) (s .front) .is))
 
-pub ruleset counting = (leaf-counted, unary-counted, binary-counted, and-ors-small, pairs-small)
+pub ruleset counting = (leaf-counted, unary-counted, and-ors-small, pairs-small)

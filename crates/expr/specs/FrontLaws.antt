@@ -151,7 +151,7 @@ module _ (ws : List ℕ) (a : Arity) (e : arityOutcome a ≡ arityOf (getD ws 0 
   }
 
   -- the right child begins where the left one's words end
-  pub right-front : (n : ℕ) → Spans (tail 2 ws) n → (g : a ≡ Two) (t : Expr) (f : Front ws t) → Front (tail n (tail 2 ws)) (binary-node t g f .right)
+  right-front : (n : ℕ) → Spans (tail 2 ws) n → (g : a ≡ Two) (t : Expr) (f : Front ws t) → Front (tail n (tail 2 ws)) (binary-node t g f .right)
   right-front n s g t f =
       let b = binary-node t g f in
       subst (λ (i : ℕ). Front (tail i (tail 2 ws)) (b .right)) (sym (s .spans (b .left) (b .left-below))) (b .right-below)

@@ -13,7 +13,7 @@ use Rattle.expr.proofs.arity_of.Reads as arity-of-reads
 use Rattle.atom_simplifier.proofs.chain.+pairs_at.{statement}
 use Rattle.atom_simplifier.proofs.chain.+pairs_at.Tie.{close}
 use Rattle.atom_simplifier.proofs.PairsLaws.{counting}
-use Rattle.expr.specs.FrontLaws.{walk}
+use Rattle.expr.specs.FrontLaws.{walk, binary-gives}
 use Rattle.expr.specs.PartLaws.{tail-short}
 
 abbrev μ-pairs-at : Measures 1 pairs-at-kinds.ps ℕ
@@ -28,7 +28,7 @@ pairs-at-below t = and 1 pairs-at-kinds.ps (falls 1 pairs-at-kinds.ps _<_ μ-pai
 abbrev pairs-at-claims : ℕ → pairs-at-lts.Claims
 pairs-at-claims t = (arity-of-reads.Asked, arity-of-reads.Learnt, pairs-at-below t, pairs-at.Post, unary-pairs-reads.Asked, unary-pairs-reads.Learnt, binary-pairs-reads.Asked, binary-pairs-reads.Learnt)
 
-ruleset rules = (basics, counting, walk, tail-short)
+ruleset rules = (basics, counting, walk, binary-gives, tail-short)
 
 pub +pairs-at-spec : {M : Type 1} → statement M
 +pairs-at-spec = close μ-pairs-at
