@@ -2,7 +2,7 @@
 use mathlib.Core.Path.{_≡_, refl, sym, ap, subst, _∙_}
 use mathlib.Core.Bool.{Bool, true, false, not}
 use mathlib.Core.List.{List, [], _∷_, _++_, append-assoc, append-nil}
-use Prim.Native.Nat.{ℕ, suc, _+_, _*_, _-_, _/_, _%_, _≤_, _<_}
+use Prim.Native.Nat.{ℕ, suc, _+_, _*_, _-_, _%_, _≤_, _<_}
 use native.Mathlib.Omega.{arith}
 use lib.Dec.{T}
 use lib.ListN.{length, take, drop, getD, set, replicate, length-append, length-set, length-drop, length-replicate, getD-replicate}
@@ -16,20 +16,18 @@ use Rattle.expr.specs.declared.refusal.Refusal.{Refusal}
 use Rattle.expr.specs.declared.Arity.the-variants.{One, Two}
 use Rattle.expr.specs.declared.Counted.{Counted}
 use Rattle.expr.specs.declared.Counted.the-variants.{Count, Refused}
-use Rattle.expr.specs.Outcome.{accepted}
-use Rattle.expr.specs.Expr.{Neg, Add, Unary, Binary, Expr, leaf, unary, binary, unaryNumber, unaryOperand, binaryNumber, encode, nodes}
+use Rattle.expr.specs.Expr.{Neg, Add, Unary, Binary, Expr, leaf, unary, binary, unaryNumber, unaryOperand, binaryNumber, encode}
 use Rattle.expr.specs.ExprLaws.{nodes-pos, length-encode}
-use Rattle.expr.specs.Parse.{arityOf, operandOk, operandsOk, wordCountOk}
+use Rattle.expr.specs.Parse.{arityOf, operandOk, operandsOk}
 use Rattle.expr.specs.Parse as kinds
-use Rattle.expr.specs.ParseLaws.{count-yes}
 use Rattle.expr.specs.KindLaws.{number-arity}
 use Rattle.expr.specs.Answers.{countedOutcome}
 use Rattle.expr.specs.Span.{spanOf}
-use Rattle.expr.specs.SpanLaws.{span-encode}
+use Rattle.expr.specs.SpanLaws.{span-counted, span-not-refused}
 use Rattle.expr.specs.Parts.{tail}
 use Rattle.expr.specs.TailLaws.{tail-drop, length-tail}
 use Rattle.expr.specs.Front.{Front, Starts, Whole, treeAt}
-use Rattle.expr.specs.FrontLaws.{UnaryNode, BinaryNode, unary-node, binary-node, has-node}
+use Rattle.expr.specs.FrontLaws.{UnaryNode, BinaryNode, unary-node, binary-node}
 use Rattle.expr.specs.PartLaws.{front-tree, starts-front, exact-front, exact-length}
 use Rattle.rewriting.specs.AtomSimplifier.{sameKind}
 use Rattle.rewriting.specs.MatchLaws.{neg-number}
@@ -49,18 +47,11 @@ placed (binary k l r) at s =
 -- ---- `length_of`
 
 module _ (ws : List ℕ) (s : Starts ws) (even : length ws % 2 ≡ 0) (short : length ws ≤ 1024) (c : Counted) (h : countedOutcome c ≡ spanOf ws) where
-  spanned : countedOutcome c ≡ accepted (2 * nodes (treeAt ws))
-  spanned =
-      let f = starts-front ws s in
-      let m : length ws ≡ 2 * (length ws / 2) = omega arith in
-      let ok : T (wordCountOk (length ws)) = subst (λ (n : ℕ). T (wordCountOk n)) (sym m) (count-yes (length ws / 2) (omega (arith, has-node ws s)) (omega arith)) in
-      h ∙ span-encode ws (treeAt ws) (f .rest) (f .words) ok
-
   pub length-counted : (n : ℕ) → c ≡ Count n → n ≡ length (encode (treeAt ws))
-  length-counted n e = let s : n ≡ 2 * nodes (treeAt ws) = (let z = spanned in cc) in omega (arith, length-encode (treeAt ws))
+  length-counted = let f = starts-front ws s in span-counted ws (treeAt ws) (f .rest) (f .words) even short c h
 
   pub length-refused : (r : Refusal) → c ≡ Refused r → 0 ≡ length (encode (treeAt ws))
-  length-refused r e = absurd (let z = spanned in let y : _≡_ {A = ℕ} 0 1 = cc in omega arith)
+  length-refused r e = let f = starts-front ws s in absurd (span-not-refused ws (treeAt ws) (f .rest) (f .words) even short c h r e)
 
 pub ruleset lengths = (length-counted, length-refused)
 

@@ -1,9 +1,8 @@
 -- Subtrees by their places: their first two words, and their operands. Assumes nothing.
 use mathlib.Core.Path.{_≡_, sym, ap, subst, subst₂, _∙_}
 use mathlib.Core.List.{List, [], _∷_, _++_}
-use Prim.Native.Nat.{ℕ, zero, suc, _+_, _*_, _-_, _≤_, _<_}
+use Prim.Native.Nat.{ℕ, zero, suc, _+_, _*_, _-_, _%_, _≤_, _<_}
 use native.Mathlib.Omega.{arith}
-use lib.Dec.{T}
 use lib.ListN.{length, take, drop, getD, length-append}
 use lib.Seq.{take-nil, take-take, drop-drop, getD-take, getD-drop}
 use mir.Syntax.{w64}
@@ -14,11 +13,10 @@ use Rattle.expr.specs.declared.Counted.the-variants.{Count, Refused}
 use Rattle.expr.specs.Outcome.{accepted}
 use Rattle.expr.specs.Expr.{Expr, encode, nodes}
 use Rattle.expr.specs.ExprLaws.{nodes-pos, length-encode}
-use Rattle.expr.specs.Parse.{arityOf, wordCountOk}
-use Rattle.expr.specs.ParseLaws.{count-yes}
+use Rattle.expr.specs.Parse.{arityOf}
 use Rattle.expr.specs.Answers.{countedOutcome}
 use Rattle.expr.specs.Span.{spanOf}
-use Rattle.expr.specs.SpanLaws.{span-encode}
+use Rattle.expr.specs.SpanLaws.{span-counted, span-not-refused}
 use Rattle.expr.specs.Parts.{tail, part}
 use Rattle.expr.specs.Front.{Exactly, treeAt, leftOf, rightOf}
 use Rattle.expr.specs.PartLaws.{part-length, exact-tree, exact-length, one-child, two-children, TwoChildren}
@@ -138,30 +136,28 @@ module _ (ws : List ℕ) (node : Part) (x : Standing ws node) where
     sum : nodes (partTree ws node) ≡ 1 + nodes (leftOf (partTree ws node)) + nodes (rightOf (partTree ws node))
     sum = both-nodes ws (node .start) (node .len) (partTree ws node) x a
 
-    few : nodes (leftOf (partTree ws node)) + nodes (rightOf (partTree ws node)) ≤ 512
-    few = omega (arith, long, sum, x .inside, l)
-
     rest-is : part (node .start + 2) (node .start + node .len) ws ≡ encode (leftOf (partTree ws node)) ++ encode (rightOf (partTree ws node))
     rest-is =
         sym (to-end ws (node .start) (node .len) (partTree ws node) x 2 ∙ sub-part ws (node .start) (node .len) 2 (node .len) (omega arith))
         ∙ two ws (node .start) (node .len) (partTree ws node) x a .children
 
-    spanned : countedOutcome c ≡ accepted (2 * nodes (leftOf (partTree ws node)))
-    spanned =
-        let m : length (part (node .start + 2) (node .start + node .len) ws) ≡ 2 * (nodes (leftOf (partTree ws node)) + nodes (rightOf (partTree ws node))) =
-        ap length rest-is ∙ omega (arith, length-append (encode (leftOf (partTree ws node))) (encode (rightOf (partTree ws node))), length-encode (leftOf (partTree ws node)), length-encode (rightOf (partTree ws node)))
-        in
-        let ok : T (wordCountOk (length (part (node .start + 2) (node .start + node .len) ws))) =
-        subst (λ (i : ℕ). T (wordCountOk i)) (sym m) (count-yes (nodes (leftOf (partTree ws node)) + nodes (rightOf (partTree ws node))) (omega (arith, nodes-pos (leftOf (partTree ws node)))) few)
-        in
-        h ∙ span-encode _ (leftOf (partTree ws node)) (encode (rightOf (partTree ws node))) rest-is ok
+    rest-long : length (part (node .start + 2) (node .start + node .len) ws) ≡ 2 * (nodes (leftOf (partTree ws node)) + nodes (rightOf (partTree ws node)))
+    rest-long =
+        ap length rest-is
+        ∙ omega (arith, length-append (encode (leftOf (partTree ws node))) (encode (rightOf (partTree ws node))), length-encode (leftOf (partTree ws node)), length-encode (rightOf (partTree ws node)))
+
+    even : length (part (node .start + 2) (node .start + node .len) ws) % 2 ≡ 0
+    even = omega (arith, rest-long)
+
+    short : length (part (node .start + 2) (node .start + node .len) ws) ≤ 1024
+    short = omega (arith, rest-long, long, sum, x .inside, l)
 
     module _ (n : ℕ) (e : c ≡ Count n) where
-      n-is : n ≡ 2 * nodes (leftOf (partTree ws node))
-      n-is = let z = spanned in cc
-
       n-words : n ≡ length (encode (leftOf (partTree ws node)))
-      n-words = omega (arith, n-is, length-encode (leftOf (partTree ws node)))
+      n-words = span-counted _ (leftOf (partTree ws node)) (encode (rightOf (partTree ws node))) rest-is even short c h n e
+
+      n-is : n ≡ 2 * nodes (leftOf (partTree ws node))
+      n-is = n-words ∙ length-encode (leftOf (partTree ws node))
 
       pub right-fits : Fits w64 (node .start + 2 + n)
       right-fits = omega (arith, n-is, long, sum, x .inside, l)
@@ -181,6 +177,6 @@ module _ (ws : List ℕ) (node : Part) (x : Standing ws node) where
           }
 
     pub operands-refused : (r : Refusal) → c ≡ Refused r → AreOperands ws node (record { left = node; right = node })
-    operands-refused r e = absurd (let z = spanned in let y : _≡_ {A = ℕ} 0 1 = cc in omega arith)
+    operands-refused r e = absurd (span-not-refused _ (leftOf (partTree ws node)) (encode (rightOf (partTree ws node))) rest-is even short c h r e)
 
 pub ruleset places = (stands-kind, stands-operand, node-inside, node-words, node-two, operand-found, right-fits, right-inside, operands-found, operands-refused)

@@ -1,11 +1,11 @@
 -- What the fold asks of its operands, read off their words. Assumes nothing.
-use mathlib.Core.Path.{_≡_, refl, sym, ap, subst, _∙_}
+use mathlib.Core.Path.{_≡_, refl, sym, ap, _∙_}
 use mathlib.Core.Bool.{Bool, true, false, _&&_, _||_}
 use mathlib.Core.List.{List}
 use mathlib.Core.Option.{Option, none, some}
-use Prim.Native.Nat.{ℕ, _+_, _*_, _≤_}
+use Prim.Native.Nat.{ℕ, _+_, _*_, _%_, _≤_}
 use native.Mathlib.Omega.{arith}
-use lib.Dec.{T, eqb}
+use lib.Dec.{eqb}
 use lib.ListN.{length, getD, length-append}
 use mir.Syntax.{w64}
 use mir.Val.{Fits}
@@ -18,14 +18,13 @@ use Rattle.expr.specs.declared.Counted.{Counted}
 use Rattle.expr.specs.declared.Counted.the-variants.{Count, Refused}
 use Rattle.expr.specs.Outcome.{accepted}
 use Rattle.expr.specs.Expr.{Leaf, Constant, Variable, Not, Expr, leaf, unary, binary, leafNumber, leafOperand, unaryNumber, binaryNumber, encode, nodes}
-use Rattle.expr.specs.ExprLaws.{nodes-pos, length-encode}
-use Rattle.expr.specs.Parse.{arityOf, wordCountOk}
+use Rattle.expr.specs.ExprLaws.{length-encode}
+use Rattle.expr.specs.Parse.{arityOf}
 use Rattle.expr.specs.Parse as kinds
-use Rattle.expr.specs.ParseLaws.{count-yes}
 use Rattle.expr.specs.KindLaws.{number-arity}
 use Rattle.expr.specs.Answers.{arityOutcome, countedOutcome}
 use Rattle.expr.specs.Span.{spanOf}
-use Rattle.expr.specs.SpanLaws.{span-encode}
+use Rattle.expr.specs.SpanLaws.{span-counted, span-not-refused}
 use Rattle.expr.specs.SameWords.{sameWords}
 use Rattle.expr.specs.Parts.{tail, part}
 use Rattle.expr.specs.Front.{Exactly, treeAt, leftOf, rightOf}
@@ -137,27 +136,30 @@ unfolding nodes
 nodes-are n = ap nodes (n .is)
 
 module _ (ws : List ℕ) (t : Expr) (x : Exactly ws t) (a : arityOf (getD ws 0 0) ≡ accepted 2) (l : length ws ≤ 1024) (c : Counted) (h : countedOutcome c ≡ spanOf (tail 2 ws)) where
-  spanned : countedOutcome c ≡ accepted (2 * nodes (leftOf t))
-  spanned =
-      let n = two-children ws t x a in
-      let m : length (tail 2 ws) ≡ 2 * (nodes (leftOf t) + nodes (rightOf t)) =
-      ap length (n .children) ∙ omega (arith, length-append (encode (leftOf t)) (encode (rightOf t)), length-encode (leftOf t), length-encode (rightOf t))
-      in
-      let most : nodes (leftOf t) + nodes (rightOf t) ≤ 512 = omega (arith, exact-length ws t x, nodes-are n) in
-      let ok : T (wordCountOk (length (tail 2 ws))) =
-      subst (λ (i : ℕ). T (wordCountOk i)) (sym m) (count-yes (nodes (leftOf t) + nodes (rightOf t)) (omega (arith, nodes-pos (leftOf t))) most)
-      in
-      h ∙ span-encode (tail 2 ws) (leftOf t) (encode (rightOf t)) (n .children) ok
+  both : TwoChildren ws t
+  both = two-children ws t x a
+
+  long : length (tail 2 ws) ≡ 2 * (nodes (leftOf t) + nodes (rightOf t))
+  long = ap length (both .children) ∙ omega (arith, length-append (encode (leftOf t)) (encode (rightOf t)), length-encode (leftOf t), length-encode (rightOf t))
+
+  even : length (tail 2 ws) % 2 ≡ 0
+  even = omega (arith, long)
+
+  short : length (tail 2 ws) ≤ 1024
+  short = omega (arith, long, exact-length ws t x, nodes-are both)
 
   module _ (n : ℕ) (e : c ≡ Count n) where
+    n-is : n ≡ length (encode (leftOf t))
+    n-is = span-counted (tail 2 ws) (leftOf t) (encode (rightOf t)) (both .children) even short c h n e
+
     pub right-place : 2 + n ≡ 2 + length (encode (leftOf t))
-    right-place = let s : n ≡ 2 * nodes (leftOf t) = (let z = spanned in cc) in omega (arith, length-encode (leftOf t))
+    right-place = ap (λ (i : ℕ). 2 + i) n-is
 
     pub right-fits : Fits w64 (2 + n)
-    right-fits = let s : n ≡ 2 * nodes (leftOf t) = (let z = spanned in cc) in omega (arith, exact-length ws t x, nodes-are (two-children ws t x a))
+    right-fits = omega (arith, n-is, length-encode (leftOf t), exact-length ws t x, nodes-are both)
 
   pub right-refused : (r : Refusal) → c ≡ Refused r → 2 ≡ 2 + length (encode (leftOf t))
-  right-refused r e = absurd (let z = spanned in let y : _≡_ {A = ℕ} 0 1 = cc in omega arith)
+  right-refused r e = absurd (span-not-refused (tail 2 ws) (leftOf t) (encode (rightOf t)) (both .children) even short c h r e)
 
 -- ---- `contains_operand`
 

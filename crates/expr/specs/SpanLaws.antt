@@ -1,24 +1,29 @@
 -- In a list of whole nodes, at most 512, `spanOf` is the length of the tree that stands in front, and refuses with 6 or 3 where
 -- `parse` does. Assumes nothing.
-use mathlib.Core.Path.{_≡_, refl, sym, ap, _∙_}
+use mathlib.Core.Path.{_≡_, refl, sym, ap, subst, _∙_}
 use mathlib.Core.Logic.{_⊎_, ⊎-elim}
 use mathlib.Core.Bool.{Bool, true, false, not}
 use mathlib.Core.List.{List, [], _∷_, _++_, append-assoc}
-use Prim.Native.Nat.{ℕ, zero, suc, _+_, _*_}
+use Prim.Native.Nat.{ℕ, zero, suc, _+_, _*_, _/_, _%_, _≤_}
 use native.Mathlib.Omega.{arith}
 use lib.Dec.{T, eqb}
-use lib.ListN.{length, drop}
+use lib.ListN.{length, drop, length-append}
 use Rattle.arith.specs.Choice.{if_then_else_}
 use Rattle.arith.specs.ChoiceLaws.{if-yes}
 use Rattle.expr.specs.declared.refusal.Reason.{Reason}
+use Rattle.expr.specs.declared.refusal.Refusal.{Refusal}
+use Rattle.expr.specs.declared.Counted.{Counted}
+use Rattle.expr.specs.declared.Counted.the-variants.{Count, Refused}
 use Rattle.expr.specs.Refusals.{refusal}
 use Rattle.expr.specs.Outcome.{Outcome, refused, accepted, mapped, _andThen_}
 use Rattle.expr.specs.Expr.{Expr, leaf, unary, binary, encode, nodes}
 use Rattle.expr.specs.Parse.{Kind, none, one, two, arity, arityOf, kinds, kindAt, operandOk, nodeKind, children, node, subtree, whole, wordCountOk, parse}
 use Rattle.expr.specs.Span.{dueWords, spanOf}
+use Rattle.expr.specs.Answers.{countedOutcome}
 use Rattle.expr.specs.OutcomeLaws.{then-accepted, then-refused, mapped-mapped, mapped-same}
 use Rattle.expr.specs.KindLaws.{number, operand, number-arity, arity-is}
-use Rattle.expr.specs.ParseLaws.{subtree-sound, node-read}
+use Rattle.expr.specs.ExprLaws.{nodes-pos, length-encode}
+use Rattle.expr.specs.ParseLaws.{count-yes, subtree-sound, node-read}
 
 pub due-none : (ws : List ℕ) → dueWords ws 0 ≡ accepted 0
 unfolding dueWords
@@ -98,6 +103,20 @@ span-encode ws t rest e h =
     ∙ due-encode t rest 0
     ∙ ap (mapped (λ m. 2 * nodes t + m)) (due-none rest)
     ∙ ap accepted (let s : 2 * nodes t + 0 ≡ 2 * nodes t = omega arith in s)
+
+-- what `span` answers for at most 512 nodes that begin with those of a tree: the tree's words, and no refusal
+module _ (ws : List ℕ) (t : Expr) (rest : List ℕ) (e : ws ≡ encode t ++ rest) (even : length ws % 2 ≡ 0) (short : length ws ≤ 1024) (c : Counted) (h : countedOutcome c ≡ spanOf ws) where
+  spanned : countedOutcome c ≡ accepted (2 * nodes t)
+  spanned =
+      let m : length ws ≡ 2 * (length ws / 2) = omega arith in
+      let some : 1 ≤ length ws / 2 = omega (arith, ap length e, length-append (encode t) rest, length-encode t, nodes-pos t) in
+      h ∙ span-encode ws t rest e (subst (λ (n : ℕ). T (wordCountOk n)) (sym m) (count-yes (length ws / 2) some (omega arith)))
+
+  pub span-counted : (n : ℕ) → c ≡ Count n → n ≡ length (encode t)
+  span-counted n f = let s : n ≡ 2 * nodes t = (let z = spanned in cc) in s ∙ sym (length-encode t)
+
+  pub span-not-refused : (r : Refusal) → c ≡ Refused r → ⊥
+  span-not-refused r f = let z = spanned in let y : _≡_ {A = ℕ} 0 1 = cc in omega arith
 
 -- ---- refusals
 
