@@ -2,7 +2,6 @@ pub mod StandLaws
 pub mod NodeLaws
 pub mod OrLaws
 pub mod MatcherLaws
-pub mod FillLaws
 pub mod ScanLaws
 pub mod LocalLaws
 pub mod AddendLaws

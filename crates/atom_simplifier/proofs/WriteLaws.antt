@@ -2,8 +2,7 @@
 use mathlib.Core.Path.{_≡_, refl, sym, ap, subst, _∙_}
 use mathlib.Core.Bool.{Bool}
 use mathlib.Core.List.{List, [], _∷_, _++_}
-use Prim.Native.Nat.{ℕ, zero, suc, _+_, _-_, _≤_, _<_}
-use native.Mathlib.Nat.{not-suc-le-zero, le-of-suc-le-suc}
+use Prim.Native.Nat.{ℕ, _+_, _-_, _≤_, _<_}
 use native.Mathlib.Omega.{arith}
 use lib.ListN.{length, take, drop, getD, set, length-drop, length-set}
 use lib.Seq.{take-all, length-take-le}
@@ -11,55 +10,37 @@ use borrow.Author.Tests.{ne-eqb}
 use borrow.Rule.Slice.PartMut.{putMid}
 use Rattle.arith.specs.Choice.{if_then_else_}
 use Rattle.expr.specs.Parts.{tail, part, Laid}
-use Rattle.expr.specs.LentLaws.{laid-length, laid-on}
+use Rattle.expr.specs.Lent.{over}
+use Rattle.expr.specs.LentLaws.{filled, filled-next, node-put, laid-length, laid-on}
 use Rattle.atom_simplifier.specs.Contracts.{copied, dualNumber}
 
 -- ---- `copy`
 
+pub part-copied : (w : ℕ) (part before after : List ℕ) → length part ≤ length before → after ≡ over (take (length before) part) before → Laid before after (copied w part)
+unfolding copied
+part-copied w part before after h e = record { is = e ∙ ap (λ (l : List ℕ). over l before) (take-all (length before) part h) }
+
+-- ---- loops that write a word a turn
+
 -- after i turns the first i words are written
 pub record Copied (part before after : List ℕ) (i : ℕ) : Type 0 where
-  pub is : after ≡ take i part ++ drop i before
+  pub is : after ≡ filled part before i
   pub turn : i ≤ length part
   pub long : length after ≡ length before
-
-fill : (s w : List ℕ) (i : ℕ) → i < length s → i < length w → set (take i s ++ drop i w) i (getD s i 0) ≡ take (suc i) s ++ drop (suc i) w
-fill [] w i p q = absurd (not-suc-le-zero p)
-fill (x ∷ s) [] i p q = absurd (not-suc-le-zero q)
-fill (x ∷ s) (y ∷ w) zero p q = refl
-fill (x ∷ s) (y ∷ w) (suc i) p q = ap (λ (l : List ℕ). x ∷ l) (fill s w i (le-of-suc-le-suc p) (le-of-suc-le-suc q))
 
 module _ (part before : List ℕ) (h : length part ≤ length before) where
   pub none-copied : Copied part before before 0
   none-copied = record { is = refl; turn = omega arith; long = refl }
 
-  module _ (after : List ℕ) (i : ℕ) (c : Copied part before after i) where
-    pub one-copied : i < length part → Copied part before (set after i (getD part i 0)) (i + 1)
-    one-copied l = record {
-      is = ap (λ (w : List ℕ). set w i (getD part i 0)) (c .is) ∙ fill part before i l (omega arith) ∙ ap (λ (j : ℕ). take j part ++ drop j before) (let e : suc i ≡ i + 1 = omega arith in e);
-      turn = omega arith;
-      long = length-set after i (getD part i 0) ∙ c .long;
-    }
-
-    pub copy-inside : i < length part → i < length after
-    copy-inside l = omega (arith, c .long)
-
-    pub all-copied : (w : ℕ) → length part ≤ i → Laid before after (copied w part)
-    unfolding copied
-    all-copied w f =
-        let e : i ≡ length part = omega (arith, c .turn) in
-        record { is = c .is ∙ ap (λ (j : ℕ). take j part ++ drop j before) e ∙ ap (λ (l : List ℕ). l ++ drop (length part) before) (take-all (length part) part (omega arith)) }
+  pub one-copied : (after : List ℕ) (i : ℕ) → Copied part before after i → i < length part → Copied part before (set after i (getD part i 0)) (i + 1)
+  one-copied after i c l = record {
+    is = ap (λ (w : List ℕ). set w i (getD part i 0)) (c .is) ∙ filled-next part before i 0 l (omega arith);
+    turn = omega arith;
+    long = length-set after i (getD part i 0) ∙ c .long;
+  }
 
 pub copied-long : (part before after : List ℕ) (i : ℕ) → Copied part before after i → length after ≡ length before
 copied-long part before after i c = c .long
-
-pub ruleset copying = (none-copied, one-copied, copy-inside, all-copied, copied-long)
-
--- ---- `put_node`
-
-pub node-put : (k o : ℕ) (before : List ℕ) → 2 ≤ length before → Laid before (set (set before 0 k) 1 o) (k ∷ o ∷ [])
-node-put k o [] h = absurd (omega arith)
-node-put k o (x ∷ []) h = absurd (omega arith)
-node-put k o (x ∷ y ∷ ws) h = record { is = refl }
 
 -- ---- the pieces of a replacement
 

@@ -13,11 +13,7 @@ fn copy(part: &[u64], width: u32, out: &mut [u64])
     requires { ⌜ length (now part) ≤ length (now out) ⌝ }
     ensures { λ r. ⌜ Laid (now (out .entry)) (now (out .exit)) (copied width (now (part .entry))) ⌝ }
 {
-    let mut i = 0;
-    while i < part.len() {
-        out[i] = part[i];
-        i += 1;
-    }
+    expr::copy_words(part, out);
 }
 
 pub(crate) fn put_node(kind: u64, operand: u64, out: &mut [u64])

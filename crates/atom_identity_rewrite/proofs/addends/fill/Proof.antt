@@ -49,10 +49,10 @@ use denote.Triple.Clauses.{ensured, lasts}
 use denote.Triple.Table.{entered, cited}
 use denote.Triple.Walked.{says, needs, Stays, stay-slice, stay-none, walkOf, goes-slice, goes-none, Walks, ends-at, walked, walk-meets}
 use denote.Exit.{yes}
+use Rattle.expr.specs.LentLaws.{filled, length-filled, filled-next}
 use Rattle.atom_identity_rewrite.specs.declared.addends.Addend.{Addend}
 use Rattle.atom_identity_rewrite.specs.declared.addends.Addends.{Addends}
 use Rattle.atom_identity_rewrite.specs.Contracts.{noAddend}
-use Rattle.atom_identity_rewrite.proofs.FillLaws.{filled, length-filled, filled-next}
 use Rattle.atom_identity_rewrite.proofs.WalkLaws.{room-in, lies-in, all-room, freed}
 use Rattle.atom_identity_rewrite.proofs.addends.Addend as T
 use Rattle.atom_identity_rewrite.proofs.addends.Addend.Laws as T′

@@ -49,11 +49,11 @@ use denote.Triple.Clauses.{ensured, lasts}
 use denote.Triple.Table.{entered, cited}
 use denote.Triple.Walked.{says, needs, Stays, stay-none-slice, stay-none, walkOf, goes-none-slice, goes-none, Walks, ends-at, walked, walk-meets}
 use denote.Exit.{yes}
+use Rattle.expr.specs.LentLaws.{filled}
 use Rattle.atom_identity_rewrite.specs.declared.addends.Addend.{Addend}
 use Rattle.atom_identity_rewrite.specs.declared.addends.Addends.{Addends}
 use Rattle.atom_identity_rewrite.specs.declared.reading.Reading.{Reading}
 use Rattle.atom_identity_rewrite.specs.Contracts.{noAddend, Addended, Carried}
-use Rattle.atom_identity_rewrite.proofs.FillLaws.{filled}
 use Rattle.atom_identity_rewrite.proofs.LocalLaws.{repeats, spread, clears}
 use Rattle.atom_identity_rewrite.proofs.WalkLaws.{room-in, lies-in, all-room, freed}
 use Rattle.atom_identity_rewrite.proofs.addends.Addend as T
