@@ -5,7 +5,7 @@ use mathlib.Core.List.{List, [], _∷_, _++_, append-assoc, append-nil}
 use Prim.Native.Nat.{ℕ, suc, _+_, _*_, _-_, _%_, _≤_, _<_}
 use native.Mathlib.Omega.{arith}
 use lib.Dec.{T}
-use lib.ListN.{length, take, drop, getD, set, replicate, length-append, length-set, length-drop, length-replicate, getD-replicate}
+use lib.ListN.{length, take, drop, getD, set, replicate, length-append, length-set, length-drop, length-replicate, getD-replicate, drop-of-length-le}
 use lib.Seq.{take-at, drop-at, drop-drop, length-take-le, take-suc-set, getD-drop, getD-set-same, getD-set-other}
 use mir.Facts.{and-yes}
 use mir.Syntax.{w64}
@@ -215,10 +215,6 @@ split : (l : List Owed) → 0 < length l → Split l
 split [] h = absurd (omega arith)
 split (o ∷ more) h = record { next = o; more = more; is = refl }
 
-none-due : (l : List Owed) → length l ≡ 0 → l ≡ []
-none-due [] h = refl
-none-due (o ∷ more) h = absurd (omega (arith, h))
-
 -- a turn, by the tree that is next
 module _ (ws : List ℕ) (list : List Addend) (count : ℕ) (signs : List Bool) (s : Bool) (more : List Owed) (at : ℕ) where
   add-turn : (k : Binary) (l r : Expr) → binaryNumber k ≡ 2 → suc (length more) < length signs → Gathered ws list count signs (record { negated = s; tree = binary k l r } ∷ more) at
@@ -298,7 +294,8 @@ module _ (ws : List ℕ) (list : List Addend) (count : ℕ) (signs : List Bool) 
   pub gathering-done : due ≤ 0 → IsFlat ws (record { list = list; count = count })
   unfolding placedAll
   gathering-done h =
-      let e = none-due (g .pending) (omega (arith, g .due-is)) in
+      let none-due : length (g .pending) ≤ 0 = omega (arith, g .due-is) in
+      let e : g .pending ≡ [] = drop-of-length-le (g .pending) none-due in
       let x = g .whole in
       let is : take count list ≡ placed (treeAt ws) 0 false = sym (g .gathered .all ∙ ap (λ (l : List Owed). take count list ++ placedAll l at) e ∙ append-nil (take count list)) in
       let f = exact-front ws (treeAt ws) x in

@@ -11,7 +11,7 @@ use lib.ListN.{length, getD}
 use lib.Seq.{take-all}
 use mir.Syntax.{w64}
 use mir.Val.{Fits}
-use borrow.Author.Tests.{eq-eqb, ne-eqb, lt-ltb, le-ltb, ltb-false}
+use borrow.Author.Tests.{eq-eqb, ne-eqb, lt-ltb, le-ltb, ltb-false, not-true, not-false}
 use Rattle.arith.specs.Choice.{if_then_else_}
 use Rattle.expr.specs.declared.refusal.Reason.{Reason}
 use Rattle.expr.specs.declared.refusal.Refusal.{Refusal}
@@ -43,7 +43,6 @@ use Rattle.atom_identity_rewrite.specs.declared.parts.Part.{Part}
 use Rattle.atom_identity_rewrite.specs.Calls.{Asked, candidate, noMore, orCount, askedFor, candidateAt, told, candidateWords}
 use Rattle.atom_identity_rewrite.specs.Answers.{candidateOutcome}
 use Rattle.atom_identity_rewrite.specs.Contracts.{Standing, partTree, Makes, Matched, OfferIs, Offered, Offers, asked, OffersAll, OffersList, sumCandidates, Writable, Writes, Answers}
-use Rattle.atom_identity_rewrite.proofs.HeldLaws.{not-so, is-so}
 use Rattle.atom_identity_rewrite.proofs.OfferLaws.{number-earlier}
 use Rattle.atom_identity_rewrite.proofs.RoleLaws.{and-not-three, xor-not-four}
 
@@ -269,7 +268,7 @@ module _ (ws : List ℕ) (w number : ℕ) (a : Offer) (h : Offered ws number (ca
         memory = g .laid (c .tree) makes .is ∙ sym (ap (λ (q : Asked def.Candidate). lentAfter candidateWords (accepted q) before) asked-is);
       }
 
-pub ruleset handing = (not-so, is-so, left-less, no-more, found-writable, found-answers)
+pub ruleset handing = (not-true, not-false, left-less, no-more, found-writable, found-answers)
 
 -- ---- `try_match_all`
 

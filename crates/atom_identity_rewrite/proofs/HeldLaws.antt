@@ -1,12 +1,12 @@
 -- An addend's place, and what a role holds. Assumes nothing.
 use mathlib.Core.Path.{_≡_, refl, sym, ap, subst, _∙_}
-use mathlib.Core.Bool.{Bool, true, false, not}
+use mathlib.Core.Bool.{Bool, true, false}
 use mathlib.Core.List.{List}
 use mathlib.Core.Option.{Option, none, some}
 use Prim.Native.Nat.{ℕ}
 use lib.ListN.{getD}
+use borrow.Author.Tests.{not-true, not-false}
 use Rattle.expr.specs.Expr.{Or, Expr, binary, encode}
-use Rattle.expr.specs.Parts.{part}
 use Rattle.expr.specs.Front.{leftOf, rightOf}
 use Rattle.rewriting.specs.OptionalLaws.{not-both}
 use Rattle.rewriting.specs.AtomIdentityRewrite as def
@@ -16,16 +16,6 @@ use Rattle.atom_identity_rewrite.specs.declared.parts.Role.{Role}
 use Rattle.atom_identity_rewrite.specs.Contracts.{Stands, Standing, partTree, Named, AddendIs, addendOf, OrHeld, OrHeldIs, Held, HeldIs}
 use Rattle.atom_identity_rewrite.proofs.StandLaws.{stands-tree, first-word}
 use Rattle.atom_identity_rewrite.proofs.NodeLaws.{or-arity}
-
--- ---- a test on `!b`
-
-pub not-so : (b : Bool) → not b ≡ true → b ≡ false
-not-so true e = sym e
-not-so false e = refl
-
-pub is-so : (b : Bool) → not b ≡ false → b ≡ true
-is-so true e = refl
-is-so false e = sym e
 
 -- ---- an addend's own place
 
@@ -101,4 +91,4 @@ module _ (ws : List ℕ) (r : Role) where
       has true e = refl
       has false e = not-both (some t) (held-none h e) refl
 
-pub ruleset holding = (not-so, is-so, addend-stands, or-arity, or-stands, or-word, held-stands)
+pub ruleset holding = (not-true, not-false, addend-stands, or-arity, or-stands, or-word, held-stands)

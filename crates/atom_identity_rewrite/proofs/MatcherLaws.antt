@@ -292,12 +292,9 @@ module _ (ws : List ℕ) (p q : Part) (x : Standing ws p) (y : Standing ws q) wh
   unfolding xorOfOrAnd
   no-and-side f = then-never (operandsOf Or (partTree ws p)) _ (λ s. then-none (operandsOf And (partTree ws q)) _ (no-operands ws q y And f))
 
--- 4 is not 5
-is-no-or : (n : ℕ) → n ≡ 4 → n ≡ 5 → ⊥
-is-no-or n e f = omega (arith, e, f)
-
-is-no-and : (n : ℕ) → n ≡ 5 → n ≡ 4 → ⊥
-is-no-and n e f = omega (arith, e, f)
+-- no node is an And and an Or
+and-is-no-or : (n : ℕ) → n ≡ 4 → n ≡ 5 → ⊥
+and-is-no-or n e f = omega (arith, e, f)
 
 module _ (ws : List ℕ) (p q : Part) (x : Standing ws p) (y : Standing ws q) where
   no-sides-xor : xorOfOrAnd (partTree ws p) (partTree ws q) ≡ none → xorOfOrAnd (partTree ws q) (partTree ws p) ≡ none → PickedOrAnd ws p q sides.None
@@ -306,10 +303,10 @@ module _ (ws : List ℕ) (p q : Part) (x : Standing ws p) (y : Standing ws q) wh
 
   pub picked-left : getD ws (p .start) 0 ≡ 5 → getD ws (q .start) 0 ≡ 4 → PickedOrAnd ws p q (sides.Both p q)
   unfolding OrAndIs
-  picked-left e f = record { is = (x, y, e, f, else-none _ _ (no-or-side ws q p y x (is-no-or (getD ws (q .start) 0) f))) }
+  picked-left e f = record { is = (x, y, e, f, else-none _ _ (no-or-side ws q p y x (and-is-no-or (getD ws (q .start) 0) f))) }
 
   pub left-alone : getD ws (p .start) 0 ≡ 5 → (getD ws (q .start) 0 ≡ 4 → ⊥) → PickedOrAnd ws p q sides.None
-  left-alone e f = no-sides-xor (no-and-side ws p q x y f) (no-and-side ws q p y x (is-no-and (getD ws (p .start) 0) e))
+  left-alone e f = no-sides-xor (no-and-side ws p q x y f) (no-and-side ws q p y x (λ g. and-is-no-or (getD ws (p .start) 0) g e))
 
   module _ (e : getD ws (p .start) 0 ≡ 5 → ⊥) where
     pub picked-right : getD ws (q .start) 0 ≡ 5 → getD ws (p .start) 0 ≡ 4 → PickedOrAnd ws p q (sides.Both q p)

@@ -1,10 +1,9 @@
 -- What the matchers ask of a subtree, read off its words. Assumes nothing.
 use mathlib.Core.Path.{_≡_, refl, sym, ap, ap₂, subst, _∙_}
-use mathlib.Core.Bool.{Bool, true, false, _&&_}
+use mathlib.Core.Bool.{Bool, true, false, _&&_, true≢false}
 use mathlib.Core.List.{List}
 use mathlib.Core.Option.{none}
 use Prim.Native.Nat.{ℕ, _+_, _%_, _^_, _<_}
-use native.Mathlib.Omega.{arith}
 use lib.Dec.{T, eqb}
 use lib.ListN.{getD}
 use borrow.Author.Tests.{ne-eqb, eq-eqb}
@@ -14,7 +13,7 @@ use Rattle.expr.specs.Outcome.{accepted}
 use Rattle.expr.specs.Expr.{Constant, Variable, Unary, Not, Neg, Shr, ZExt, SExt, Trunc, Binary, Add, Mul, And, Or, Xor, Concat, Expr, leaf, unary, binary, unaryNumber, binaryNumber, encode}
 use Rattle.expr.specs.Parse as kinds
 use Rattle.expr.specs.Parse.{arityOf}
-use Rattle.expr.specs.KindLaws.{number-arity, same-binary}
+use Rattle.expr.specs.KindLaws.{number-arity, not-arity, same-binary}
 use Rattle.expr.specs.SameWords.{sameWords}
 use Rattle.expr.specs.Parts.{part}
 use Rattle.expr.specs.Front.{leftOf, rightOf}
@@ -28,13 +27,7 @@ use Rattle.atom_identity_rewrite.specs.declared.parts.Part.{Part}
 use Rattle.atom_identity_rewrite.specs.Contracts.{Stands, Standing, partTree, IsOperand}
 use Rattle.atom_identity_rewrite.proofs.StandLaws.{places, first-word, second-word, arity-of}
 
-false-true : {X : Type 0} → _≡_ {A = Bool} false true → X
-false-true e = absurd (let z : _≡_ {A = ℕ} 0 1 = cc in omega arith)
-
 -- ---- kinds by their numbers
-
-pub not-arity : {n : ℕ} → n ≡ 7 → arityOf n ≡ accepted 1
-not-arity e = ap arityOf e ∙ number-arity (kinds.one Not)
 
 pub neg-arity : {n : ℕ} → n ≡ 8 → arityOf n ≡ accepted 1
 neg-arity e = ap arityOf e ∙ number-arity (kinds.one Neg)
@@ -164,9 +157,9 @@ module _ (ws : List ℕ) (at len : ℕ) (w n : ℕ) where
     masked-constant (leaf (Constant b)) x g =
         let i : getD ws (at + 1) 0 ≡ b = sym (second-word ws at len (leaf (Constant b)) x) ∙ ap (λ (l : List ℕ). getD l 1 0) (x .exactly .words) in
         f ∙ ap (λ (m : ℕ). eqb (m % 2 ^ w) n) i
-    masked-constant (leaf (Variable i)) x g = false-true g
-    masked-constant (unary k t) x g = false-true g
-    masked-constant (binary k l r) x g = false-true g
+    masked-constant (leaf (Variable i)) x g = absurd (true≢false (sym g))
+    masked-constant (unary k t) x g = absurd (true≢false (sym g))
+    masked-constant (binary k l r) x g = absurd (true≢false (sym g))
 
     pub masked-word : (t : Expr) → Stands ws at len t → getD ws at 0 ≡ 0 → r ≡ isMasked w n t
     masked-word t x g = masked-constant t x (sym (constant-node ws at len t x) ∙ eq-eqb (getD ws at 0) 0 g)

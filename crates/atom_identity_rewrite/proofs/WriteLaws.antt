@@ -4,7 +4,7 @@ use mathlib.Core.Bool.{Bool, true, false}
 use mathlib.Core.List.{List, [], _∷_, _++_}
 use Prim.Native.Nat.{ℕ, _+_, _-_, _≤_}
 use native.Mathlib.Omega.{arith}
-use lib.ListN.{length, take, set, length-append}
+use lib.ListN.{length, take, length-append}
 use lib.Seq.{take-all}
 use mir.Syntax.{w64}
 use mir.Val.{Fits}
@@ -14,18 +14,13 @@ use Rattle.expr.specs.ExprLaws.{length-encode}
 use Rattle.expr.specs.Parts.{tail, part, Laid}
 use Rattle.expr.specs.TailLaws.{length-tail}
 use Rattle.expr.specs.Lent.{over}
-use Rattle.expr.specs.LentLaws.{laid-length, laid-on}
+use Rattle.expr.specs.LentLaws.{node-put, laid-length, laid-on}
 use Rattle.atom_identity_rewrite.specs.declared.parts.Part.{Part}
 use Rattle.atom_identity_rewrite.specs.declared.candidate.Candidate.{Candidate}
 use Rattle.atom_identity_rewrite.specs.Contracts.{Standing, partTree, secondTree, Makes, Writable, Writes}
 use Rattle.atom_identity_rewrite.proofs.StandLaws.{places, stands-length}
 
--- ---- `put_node`, `copy_part`
-
-pub node-put : (before : List ℕ) (k : ℕ) → 2 ≤ length before → Laid before (set (set before 0 k) 1 0) (k ∷ 0 ∷ [])
-node-put [] k h = absurd (omega arith)
-node-put (x ∷ []) k h = absurd (omega arith)
-node-put (x ∷ y ∷ before) k h = record { is = refl }
+-- ---- `copy_part`
 
 module _ (ws : List ℕ) (p : Part) (x : Standing ws p) where
   words-are : part (p .start) (p .start + p .len) ws ≡ encode (partTree ws p)

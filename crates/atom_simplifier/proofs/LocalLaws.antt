@@ -20,7 +20,7 @@ use Rattle.expr.specs.Expr.{Constant, Variable, Unary, Not, Neg, Shr, ZExt, SEx
 use Rattle.expr.specs.ExprLaws.{nodes-pos, length-encode}
 use Rattle.expr.specs.Parse.{arityOf}
 use Rattle.expr.specs.Parse as kinds
-use Rattle.expr.specs.KindLaws.{number, number-arity, same-binary}
+use Rattle.expr.specs.KindLaws.{number, number-arity, not-arity, same-binary}
 use Rattle.expr.specs.Answers.{arityOutcome}
 use Rattle.expr.specs.Parts.{tail, part}
 use Rattle.expr.specs.TailLaws.{length-tail}
@@ -35,7 +35,7 @@ use Rattle.atom_simplifier.specs.declared.local.Decision.{Decision}
 use Rattle.atom_simplifier.specs.declared.local.Decision.the-variants as local
 use Rattle.atom_simplifier.specs.Contracts.{isConstant, bitwiseOf, IsBitwise, Within, Holds, dualNumber, Makes, Decides}
 use Rattle.atom_simplifier.proofs.DecideLaws.{decides-none, decides-some, all-within, left-holds, part-within}
-use Rattle.atom_simplifier.proofs.OperandLaws.{arity-one, arity-two, number-not, number-bitwise, bitwise-arity}
+use Rattle.atom_simplifier.proofs.OperandLaws.{arity-one, arity-two, number-bitwise, bitwise-arity}
 
 -- ---- a node with one child
 
@@ -168,20 +168,20 @@ not-operand (Trunc n) e = absurd (omega arith)
 
 module _ (node : List ℕ) (t : Expr) (x : Exactly node t) (e : getD node 0 0 ≡ 7) where
   child-word : getD node 2 0 ≡ getD (encode (leftOf t)) 0 0
-  child-word = ap (λ (l : List ℕ). getD l 2 0) (unary-words node t x (number-not node e))
+  child-word = ap (λ (l : List ℕ). getD l 2 0) (unary-words node t x (not-arity e))
 
   pub no-rule-below : (getD node 2 0 ≡ 7 → ⊥) → (getD node 2 0 ≡ 4 → ⊥) → (getD node 2 0 ≡ 5 → ⊥) → Decides node local.Nothing (notRewrite (leftOf t))
   no-rule-below f g h = decides-none node local.Nothing _ (no-not-rule (leftOf t) (λ i. f (child-word ∙ i)) (λ i. g (child-word ∙ i)) (λ i. h (child-word ∙ i))) refl
 
   child-exact : Exactly (tail 2 node) (leftOf t)
-  child-exact = one-child node t x (number-not node e) .below
+  child-exact = one-child node t x (not-arity e) .below
 
   tail-word : getD (tail 2 node) 0 0 ≡ getD node 2 0
   tail-word = ap (λ (l : List ℕ). getD l 0 0) (child-exact .words) ∙ sym child-word
 
   module _ (f : getD node 2 0 ≡ 7) where
     a₂ : arityOf (getD (tail 2 node) 0 0) ≡ accepted 1
-    a₂ = number-not (tail 2 node) (tail-word ∙ f)
+    a₂ = not-arity (tail-word ∙ f)
 
     pub double-most : 4 ≤ length node
     double-most = omega (arith, length-tail 2 node, has-child (tail 2 node) (leftOf t) child-exact a₂)
@@ -201,7 +201,7 @@ module _ (node : List ℕ) (t : Expr) (x : Exactly node t) (e : getD node 0 0 �
         deeper p = record {
           front = getD node 0 0 ∷ getD node 1 0 ∷ p .front;
           back = p .back;
-          words = unary-words node t x (number-not node e) ∙ ap (λ (l : List ℕ). getD node 0 0 ∷ getD node 1 0 ∷ l) (sym (child-exact .words) ∙ p .words);
+          words = unary-words node t x (not-arity e) ∙ ap (λ (l : List ℕ). getD node 0 0 ∷ getD node 1 0 ∷ l) (sym (child-exact .words) ∙ p .words);
           place = omega (arith, p .place);
         }
 
@@ -232,7 +232,7 @@ module _ (node : List ℕ) (t : Expr) (x : Exactly node t) (e : getD node 0 0 �
 
     words : node ≡ getD node 0 0 ∷ getD node 1 0 ∷ binaryNumber (c .kind) ∷ 0 ∷ (encode a ++ encode b)
     unfolding encode
-    words = unary-words node t x (number-not node e) ∙ ap (λ (l : List ℕ). getD node 0 0 ∷ getD node 1 0 ∷ l) (ap encode (c .is))
+    words = unary-words node t x (not-arity e) ∙ ap (λ (l : List ℕ). getD node 0 0 ∷ getD node 1 0 ∷ l) (ap encode (c .is))
 
     module _ (r : ℕ) (p : r ≡ 2 + length (encode (leftOf (treeAt (tail 2 node))))) where
       place : 2 + r ≡ 4 + length (encode a)
@@ -269,7 +269,7 @@ module _ (node : List ℕ) (t : Expr) (x : Exactly node t) (e : getD node 0 0 �
         where
           none-held : getD node 1 0 ≡ 0
           none-held =
-              let m = one-child node t x (number-not node e) in
+              let m = one-child node t x (not-arity e) in
               m .operand-is ∙ not-operand (m .kind) (sym (m .number-is) ∙ e)
 
       pub left-not : getD node 4 0 ≡ 7 → Decides node (local.DeMorgan (2 + r)) (notRewrite (leftOf t))
@@ -403,7 +403,7 @@ module _ (node : List ℕ) (t : Expr) (x : Exactly node t) (w : ℕ) (v : Arity)
 
 -- ---- by function
 
-pub ruleset notRule = (parts, number-not, has-child, no-rule-below, double-most, double-goes, below-arity, operand-fits, left-inside, right-inside, left-not, right-not, neither-not, and-bitwise, or-bitwise)
+pub ruleset notRule = (parts, not-arity, has-child, no-rule-below, double-most, double-goes, below-arity, operand-fits, left-inside, right-inside, left-not, right-not, neither-not, and-bitwise, or-bitwise)
 
 pub ruleset unaryRule = (parts, not-decides, other-stays, shift-stays, shift-goes)
 

@@ -17,11 +17,11 @@ use Rattle.expr.specs.declared.Arity.the-variants as arity
 use Rattle.expr.specs.declared.Counted.{Counted}
 use Rattle.expr.specs.declared.Counted.the-variants.{Count, Refused}
 use Rattle.expr.specs.Outcome.{accepted}
-use Rattle.expr.specs.Expr.{Leaf, Constant, Variable, Not, Expr, leaf, unary, binary, leafNumber, leafOperand, unaryNumber, binaryNumber, encode, nodes}
+use Rattle.expr.specs.Expr.{Leaf, Constant, Variable, Expr, leaf, unary, binary, leafNumber, leafOperand, unaryNumber, binaryNumber, encode, nodes}
 use Rattle.expr.specs.ExprLaws.{length-encode}
 use Rattle.expr.specs.Parse.{arityOf}
 use Rattle.expr.specs.Parse as kinds
-use Rattle.expr.specs.KindLaws.{number-arity}
+use Rattle.expr.specs.KindLaws.{number-arity, not-arity}
 use Rattle.expr.specs.Answers.{arityOutcome, countedOutcome}
 use Rattle.expr.specs.Span.{spanOf}
 use Rattle.expr.specs.SpanLaws.{span-counted, span-not-refused}
@@ -48,9 +48,6 @@ module _ (ws : List ℕ) (v : Arity) (h : arityOutcome v ≡ arityOf (getD ws 0 
 
 number-none : (ws : List ℕ) → getD ws 0 0 ≡ 0 → arityOf (getD ws 0 0) ≡ accepted 0
 number-none ws e = ap arityOf e ∙ number-arity (kinds.none (Constant 0))
-
-pub number-not : (ws : List ℕ) → getD ws 0 0 ≡ 7 → arityOf (getD ws 0 0) ≡ accepted 1
-number-not ws e = ap arityOf e ∙ number-arity (kinds.one Not)
 
 pub number-bitwise : (ws : List ℕ) (op : ℕ) → getD ws 0 0 ≡ op → IsBitwise op → arityOf (getD ws 0 0) ≡ accepted 2
 number-bitwise ws op e b = ap arityOf (e ∙ b) ∙ number-arity (kinds.two (kindOf (bitwiseOf op)))
@@ -107,9 +104,9 @@ module _ (ws : List ℕ) (t : Expr) (x : Exactly ws t) (w : ℕ) (u : Expr) wher
   pub not-of : getD ws 0 0 ≡ 7 → (r : Bool) → r ≡ samePart w (treeAt (tail 2 ws)) u → r ≡ isNotOf w t u
   unfolding isNotOf
   not-of e r h =
-      let n = one-child ws t x (number-not ws e) in
+      let n = one-child ws t x (not-arity e) in
       let k : isNotKind (n .kind) ≡ true = not-number (n .kind) ∙ eq-eqb (unaryNumber (n .kind)) 7 (sym (n .number-is) ∙ e) in
-      h ∙ ap (λ (s : Expr). samePart w s u) (child-tree ws t x (number-not ws e))
+      h ∙ ap (λ (s : Expr). samePart w s u) (child-tree ws t x (not-arity e))
       ∙ sym (ap (λ (s : Expr). isNotOf w s u) (n .is) ∙ ap (λ (b : Bool). b && samePart w (leftOf t) u) k)
 
 pub no-not-of : (ws : List ℕ) (t : Expr) → Exactly ws t → (w : ℕ) (u : Expr) → (getD ws 0 0 ≡ 7 → ⊥) → false ≡ isNotOf w t u
@@ -193,4 +190,4 @@ module _ (op : ℕ) (b : IsBitwise op) (w : ℕ) where
         g ∙ ap (λ (s : Expr). samePart w s u) (right-tree ws t x a right p)
         ∙ sym (operands ∙ ap (λ (d : Bool). d || samePart w (rightOf t) u) f)
 
-pub ruleset operand = (parts, number-not, number-bitwise, constant-word, no-constant, is-word, is-no-word, first-constant, second-constant, same-words, not-of, no-not-of, first-of, second-of, right-place, right-fits, right-refused, no-operand, left-operand, right-operand)
+pub ruleset operand = (parts, not-arity, number-bitwise, constant-word, no-constant, is-word, is-no-word, first-constant, second-constant, same-words, not-of, no-not-of, first-of, second-of, right-place, right-fits, right-refused, no-operand, left-operand, right-operand)

@@ -4,7 +4,7 @@ use mathlib.Core.Logic.{⊎-elim}
 use mathlib.Core.List.{List, [], _∷_, _++_, append-nil}
 use Prim.Native.Nat.{ℕ, zero, suc, _+_, _*_, _-_, _^_, _≤_, _<_}
 use native.Mathlib.Omega.{arith}
-use lib.ListN.{length, take, drop, getD, length-drop, take-append-drop}
+use lib.ListN.{length, take, drop, getD, length-drop, take-append-drop, drop-of-length-le}
 use lib.Seq.{length-take-le, getD-take, take-append-le, drop-append-le}
 use mir.Syntax.{w64}
 use mir.Val.{Fits}
@@ -20,10 +20,6 @@ use Rattle.atom_simplifier.specs.Contracts.{Joined, Makes, copied, Write
 use Rattle.atom_simplifier.proofs.local.Decision.{the-type}
 use Rattle.atom_simplifier.proofs.ReplacementLaws as in-node
 use Rattle.atom_simplifier.proofs.ReplacementLaws.{constant-written, part-written, join-written}
-
-empty : (l : List ℕ) → length l ≡ 0 → l ≡ []
-empty [] e = refl
-empty (x ∷ l) e = absurd (omega arith)
 
 -- a part of the first words is that part of all
 part-front : (ws : List ℕ) (len at n : ℕ) → len ≤ length ws → at + n ≤ len → part at (at + n) (part 0 len ws) ≡ part at (at + n) ws
@@ -91,7 +87,8 @@ module _ (ws : List ℕ) (len : ℕ) (d : Decision) (r : Replaceable ws len d) w
         first : at ≡ 0 → ⊥
         first z =
             let i = joined .holds .within in
-            let f : i .front ≡ [] = empty (i .front) (sym (i .place) ∙ z) in
+            let none : length (i .front) ≤ 0 = omega (arith, i .place) in
+            let f : i .front ≡ [] = drop-of-length-le (i .front) none in
             let b = prefix-free (treeAt node) (joined .operand) [] (i .back)
             (append-nil (encode (treeAt node)) ∙ sym (r .whole .words) ∙ i .words ∙ ap (λ (l : List ℕ). l ++ (encode (joined .operand) ++ i .back)) f) in
             omega (arith, in-node.join-room node d len (r .writable) at n c e, node-length, ap length (r .whole .words), ap (λ (t : Expr). length (encode t)) (b .0), joined .holds .words)

@@ -72,6 +72,9 @@ number-arity (two Or) = refl
 number-arity (two Xor) = refl
 number-arity (two Concat) = refl
 
+pub not-arity : {n : ℕ} → n ≡ 7 → arityOf n ≡ accepted 1
+not-arity e = ap arityOf e ∙ number-arity (one Not)
+
 -- the operand of a node with one child has 32 bits
 pub unary-operand : (k : Unary) → T (operandOk (unaryNumber k) (unaryOperand k)) → unaryOperand k ≤ 4294967295
 unfolding operandOk

@@ -25,36 +25,30 @@ use Rattle.rewriting.specs.TestLaws.{same-kind→eq}
 use Rattle.rewriting.specs.MatchLaws.{neg-kind→eq, Absorbs, absorbs, found-1, Minus, or-and, or-not, Differs, or-first, or-second, found-2, found-3, Insert, here, there, product, PlusOne, plus-one, found-4, OrNotFlat, or-not-flat, found-5}
 
 module _ (w : ℕ) (σ : List ℕ) where
-  abbrev val : Expr → ℕ
-  val t = value w σ t
-
-  lt : (t : Expr) → val t < 2 ^ w
-  lt t = value-lt w σ t
-
   -- ---- tag 1
 
-  pub absorbs-value : {t u : Expr} → Absorbs t u → val u ≡ val t
+  pub absorbs-value : {t u : Expr} → Absorbs t u → value w σ u ≡ value w σ t
   unfolding value
-  absorbs-value (absorbs {x} {y} h) = sym (xor-and w (lt x) (lt y)) ∙ h .same-value w σ
+  absorbs-value (absorbs {x} {y} h) = sym (xor-and w (value-lt w σ x) (value-lt w σ y)) ∙ h .same-value w σ
 
   pub tag-1 : (t : Expr) → Every (λ u. value w σ u ≡ value w σ t) (matchXorAndAbsorb t)
   tag-1 t = every-on (Absorbs t) _ (matchXorAndAbsorb t) (λ u. absorbs-value) (found-1 t)
 
   -- ---- tags 2 and 3
 
-  minus-value : {o n u : Expr} → Minus o n u → bvadd w (val o) (bvneg w (val n)) ≡ val u
+  minus-value : {o n u : Expr} → Minus o n u → bvadd w (value w σ o) (bvneg w (value w σ n)) ≡ value w σ u
   unfolding value
   minus-value (or-and {a} {b} h) =
-      ap (λ (n : ℕ). bvadd w (bvor (val a) (val b)) (bvneg w n)) (sym (h .same-value w σ)) ∙ or-minus-and w (lt a) (lt b)
+      ap (λ (n : ℕ). bvadd w (bvor (value w σ a) (value w σ b)) (bvneg w n)) (sym (h .same-value w σ)) ∙ or-minus-and w (value-lt w σ a) (value-lt w σ b)
   minus-value (or-not {a = a} {x = x} h) =
-      ap (λ (n : ℕ). bvadd w n (bvneg w (bvnot w (val a)))) (sym (h .same-value w σ)) ∙ ornot-minus-not w (lt a) (lt x)
+      ap (λ (n : ℕ). bvadd w n (bvneg w (bvnot w (value w σ a)))) (sym (h .same-value w σ)) ∙ ornot-minus-not w (value-lt w σ a) (value-lt w σ x)
 
-  turned-value : {o n u : Expr} → Minus o n u → bvadd w (val n) (bvneg w (val o)) ≡ bvneg w (val u)
+  turned-value : {o n u : Expr} → Minus o n u → bvadd w (value w σ n) (bvneg w (value w σ o)) ≡ bvneg w (value w σ u)
   unfolding value
   turned-value (or-and {a} {b} h) =
-      ap (λ (n : ℕ). bvadd w n (bvneg w (bvor (val a) (val b)))) (sym (h .same-value w σ)) ∙ and-minus-or w (lt a) (lt b)
+      ap (λ (n : ℕ). bvadd w n (bvneg w (bvor (value w σ a) (value w σ b)))) (sym (h .same-value w σ)) ∙ and-minus-or w (value-lt w σ a) (value-lt w σ b)
   turned-value (or-not {a = a} {x = x} h) =
-      ap (λ (n : ℕ). bvadd w (bvnot w (val a)) (bvneg w n)) (sym (h .same-value w σ)) ∙ not-minus-ornot w (lt a) (lt x)
+      ap (λ (n : ℕ). bvadd w (bvnot w (value w σ a)) (bvneg w n)) (sym (h .same-value w σ)) ∙ not-minus-ornot w (value-lt w σ a) (value-lt w σ x)
 
   neg-neg : {x : ℕ} → x < 2 ^ w → bvneg w (bvneg w x) ≡ x
   neg-neg h = diff-value w (diff-neg w (diff-neg w (diff-plain w h))) h 0 0 (omega arith)
@@ -72,7 +66,7 @@ module _ (w : ℕ) (σ : List ℕ) where
   }
   differs-value {u = u} (or-second s c m) = record {
     kept = λ h. absurd (subst T s h);
-    negated = λ h. sym (neg-neg (lt u)) ∙ ap (bvneg w) (sym (turned-value m) ∙ c .same-value w σ);
+    negated = λ h. sym (neg-neg (value-lt w σ u)) ∙ ap (bvneg w) (sym (turned-value m) ∙ c .same-value w σ);
   }
 
   pub tag-2 : (t : Expr) → Every (Signed t) (matchXorViaOrMinusAnd t)
@@ -84,7 +78,7 @@ module _ (w : ℕ) (σ : List ℕ) where
   -- ---- a tree as the difference of its addends
 
   abbrev whole : Addend → ℕ
-  whole a = val (a .expr)
+  whole a = value w σ (a .expr)
 
   -- an addend where it has that sign, else nothing
   abbrev share : Bool → Addend → ℕ
@@ -107,9 +101,9 @@ module _ (w : ℕ) (σ : List ℕ) where
   abbrev Sum : Bool → ℕ → List Addend → Type 0
   Sum s v xs = Diff w v (sum (share s) xs) (sum (share (not s)) xs)
 
-  sum-one : (s : Bool) (t : Expr) → Sum s (val t) (record { expr = t; negated = s } ∷ [])
-  sum-one false t = subst (λ (n : ℕ). Diff w (val t) n 0) (sym (add-zero (val t))) (diff-plain w (lt t))
-  sum-one true t = subst (λ (n : ℕ). Diff w (val t) n 0) (sym (add-zero (val t))) (diff-plain w (lt t))
+  sum-one : (s : Bool) (t : Expr) → Sum s (value w σ t) (record { expr = t; negated = s } ∷ [])
+  sum-one false t = subst (λ (n : ℕ). Diff w (value w σ t) n 0) (sym (add-zero (value w σ t))) (diff-plain w (value-lt w σ t))
+  sum-one true t = subst (λ (n : ℕ). Diff w (value w σ t) n 0) (sym (add-zero (value w σ t))) (diff-plain w (value-lt w σ t))
 
   sum-neg : (s : Bool) {v : ℕ} (xs : List Addend) → Sum (not s) v xs → Sum s (bvneg w v) xs
   sum-neg false xs d = diff-neg w d
@@ -118,21 +112,21 @@ module _ (w : ℕ) (σ : List ℕ) where
   sum-both : (s : Bool) {u v : ℕ} (xs ys : List Addend) → Sum s u xs → Sum s v ys → Sum s (bvadd w u v) (xs ++ ys)
   sum-both s {u} {v} xs ys d e = subst₂ (Diff w (bvadd w u v)) (sum-append (share s) xs ys) (sum-append (share (not s)) xs ys) (diff-add w d e)
 
-  sum-of : (s : Bool) (t : Expr) → Sum s (val t) (pushAddend s t)
+  sum-of : (s : Bool) (t : Expr) → Sum s (value w σ t) (pushAddend s t)
   unfolding pushAddend value
   sum-of s (leaf k) = sum-one s (leaf k)
   sum-of s (unary k t) =
-      if-case (Sum s (val (unary k t))) (isNegKind k)
-      (λ h. subst (λ (j : Unary). Sum s (unaryValue w j (val t)) (pushAddend (not s) t)) (sym (neg-kind→eq k h))
+      if-case (Sum s (value w σ (unary k t))) (isNegKind k)
+      (λ h. subst (λ (j : Unary). Sum s (unaryValue w j (value w σ t)) (pushAddend (not s) t)) (sym (neg-kind→eq k h))
       (sum-neg s (pushAddend (not s) t) (sum-of (not s) t)))
       (sum-one s (unary k t))
   sum-of s (binary k l r) =
-      if-case (Sum s (val (binary k l r))) (sameKind k Add)
-      (λ h. subst (λ (j : Binary). Sum s (binaryValue w j (val l) (val r)) (pushAddend s l ++ pushAddend s r)) (sym (same-kind→eq k Add h))
+      if-case (Sum s (value w σ (binary k l r))) (sameKind k Add)
+      (λ h. subst (λ (j : Binary). Sum s (binaryValue w j (value w σ l) (value w σ r)) (pushAddend s l ++ pushAddend s r)) (sym (same-kind→eq k Add h))
       (sum-both s (pushAddend s l) (pushAddend s r) (sum-of s l) (sum-of s r)))
       (sum-one s (binary k l r))
 
-  masked-value : (n : ℕ) (t : Expr) → T (isMasked w n t) → val t ≡ n
+  masked-value : (n : ℕ) (t : Expr) → T (isMasked w n t) → value w σ t ≡ n
   unfolding value isMasked
   masked-value n (leaf (Constant c)) h = eqb→eq (c % 2 ^ w) n h
   masked-value n (leaf (Variable i)) h = absurd h
@@ -157,11 +151,11 @@ module _ (w : ℕ) (σ : List ℕ) where
       let q = none-negated xs (n .1) in
       (ap₂ _+_ (p .0) (q .0), ap₂ _+_ (p .1) (q .1))
 
-  pub plus-one-value : (t : Expr) {u : Expr} → PlusOne w (flattenAddends t) u → val u ≡ val t
+  pub plus-one-value : (t : Expr) {u : Expr} → PlusOne w (flattenAddends t) u → value w σ u ≡ value w σ t
   unfolding value
   plus-one-value t (plus-one {one} {o} {a} {x = x} n m i h j) =
       let s = none-negated (flattenAddends t) n in
-      sym (S.plus-one w (lt (a .expr)) (lt x) (sum-of false t)
+      sym (S.plus-one w (value-lt w σ (a .expr)) (value-lt w σ x) (sum-of false t)
       (omega (arith, sum-insert whole i, sum-insert whole j, masked-value 1 (one .expr) m, h .same-value w σ)))
 
   pub tag-4 : (t : Expr) → Every (λ u. value w σ u ≡ value w σ t) (matchAndViaNotOrPlusAPlusOne w (flattenAddends t))
@@ -171,7 +165,7 @@ module _ (w : ℕ) (σ : List ℕ) where
 
   -- the sums of two addends of which one is subtracted
   abbrev Shares : List Addend → Expr × Expr → Type 0
-  Shares xs (x, y) = (sum (share false) xs ≡ val x) × (sum (share true) xs ≡ val y)
+  Shares xs (x, y) = (sum (share false) xs ≡ value w σ x) × (sum (share true) xs ≡ value w σ y)
 
   plus-and-minus : (xs : List Addend) → Every (Shares xs) (plusAndMinus xs)
   unfolding plusAndMinus
@@ -192,17 +186,17 @@ module _ (w : ℕ) (σ : List ℕ) where
       tt)
   plus-and-minus (a ∷ b ∷ c ∷ xs) = tt
 
-  pub or-not-flat-value : (t : Expr) {u : Expr} → OrNotFlat w (flattenAddends t) u → val u ≡ val t
+  pub or-not-flat-value : (t : Expr) {u : Expr} → OrNotFlat w (flattenAddends t) u → value w σ u ≡ value w σ t
   unfolding value
   or-not-flat-value t (or-not-flat {two} {twice} {zs = zs} {a} {b} m i (n, product {c} g h) j e) =
       let k = and-yes (two .negated) (isMasked w 2 (two .expr)) m in
       let p = minus-share two (k .0) in
       let q = minus-share twice n in
       let r = every-at (Shares zs) (plusAndMinus zs) (plus-and-minus zs) e in
-      let o = bvor (val a) (bvnot w (val b)) in
+      let o = bvor (value w σ a) (bvnot w (value w σ b)) in
       let v : whole twice ≡ 2 * o % 2 ^ w = sym (h .same-value w σ) ∙ ap (λ (y : ℕ). bvmul w y o) (masked-value 2 c g) in
-      sym (flat-or-not w (lt a) (lt b)
-      (diff-unreduced w (2 + val b) (2 * o) (sum-of false t)
+      sym (flat-or-not w (value-lt w σ a) (value-lt w σ b)
+      (diff-unreduced w (2 + value w σ b) (2 * o) (sum-of false t)
       (omega (arith, sum-insert (share true) i, sum-insert (share true) j, masked-value 2 (two .expr) (k .1))))
       (omega (arith, sum-insert (share false) i, sum-insert (share false) j)))
 
