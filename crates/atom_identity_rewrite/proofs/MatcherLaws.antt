@@ -382,7 +382,7 @@ module _ (ws : List ℕ) (p q : Part) (k : ℕ) where
 pub ruleset picksKind = (nodes, kind-lhs, kind-rhs, kind-none)
 
 module _ (ws : List ℕ) (p q : Part) (x : Standing ws p) (y : Standing ws q) where
-  pub no-or-not : (getD ws (p .start) 0 ≡ 5 → ⊥) → andOfOrNot (partTree ws p) (partTree ws q) ≡ none
+  no-or-not : (getD ws (p .start) 0 ≡ 5 → ⊥) → andOfOrNot (partTree ws p) (partTree ws q) ≡ none
   unfolding andOfOrNot
   no-or-not f = then-none (operandsOf Or (partTree ws p)) _ (no-operands ws p x Or f)
 

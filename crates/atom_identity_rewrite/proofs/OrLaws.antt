@@ -50,7 +50,7 @@ module _ (ws : List ℕ) where
     pub or-first : r .has ≡ true → (o′ : Option (Expr × Expr)) → OrHeld ws r (o orElse o′)
     or-first e o′ = subst (OrHeld ws r) (let s = or-sides ws r h e in s ∙ sym (ap (λ (q : Option (Expr × Expr)). q orElse o′) s)) h
 
-    pub or-second : r .has ≡ false → (s : Role) (o′ : Option (Expr × Expr)) → OrHeld ws s o′ → OrHeld ws s (o orElse o′)
+    or-second : r .has ≡ false → (s : Role) (o′ : Option (Expr × Expr)) → OrHeld ws s o′ → OrHeld ws s (o orElse o′)
     or-second e s o′ g = subst (OrHeld ws s) (sym (ap (λ (q : Option (Expr × Expr)). q orElse o′) (or-none ws r h e))) g
 
 -- ---- `is_factor`, `or_beside`

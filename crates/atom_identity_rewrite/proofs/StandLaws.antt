@@ -82,7 +82,7 @@ module _ (ws : List ℕ) (at len : ℕ) (t : Expr) (x : Stands ws at len t) wher
   -- ---- `operand_of`
 
   module _ (a : arityOf (getD ws at 0) ≡ accepted 1) where
-    pub child-stands : Stands ws (at + 2) (len - 2) (leftOf t)
+    child-stands : Stands ws (at + 2) (len - 2) (leftOf t)
     child-stands =
         within 2 len (leftOf t) (omega arith) (omega (arith, stands-length, nodes-pos t))
         (subst (λ (l : List ℕ). Exactly l (leftOf t)) (to-end 2) (one-child P t (x .exactly) (arity-of 1 a) .below))
@@ -98,12 +98,12 @@ module _ (ws : List ℕ) (at len : ℕ) (t : Expr) (x : Stands ws at len t) wher
     both-nodes = ap nodes (two .is)
 
     module _ (n : ℕ) (e : n ≡ length (encode (leftOf t))) where
-      pub left-stands : Stands ws (at + 2) n (leftOf t)
+      left-stands : Stands ws (at + 2) n (leftOf t)
       left-stands =
           subst (λ (m : ℕ). Stands ws (at + 2) m (leftOf t)) (let f : 2 + length (encode (leftOf t)) - 2 ≡ n = omega (arith, e) in f)
           (within 2 (2 + length (encode (leftOf t))) (leftOf t) (omega (arith, stands-length, both-nodes, length-encode (leftOf t))) (omega arith) (two .left-below))
 
-      pub right-stands : Stands ws (at + 2 + n) (at + len - (at + 2 + n)) (rightOf t)
+      right-stands : Stands ws (at + 2 + n) (at + len - (at + 2 + n)) (rightOf t)
       right-stands =
           let m = 2 + length (encode (leftOf t)) in
           subst₂ (λ (i j : ℕ). Stands ws i j (rightOf t)) (let f : at + m ≡ at + 2 + n = omega (arith, e) in f) (let f : len - m ≡ at + len - (at + 2 + n) = omega (arith, e) in f)
@@ -111,7 +111,7 @@ module _ (ws : List ℕ) (at len : ℕ) (t : Expr) (x : Stands ws at len t) wher
           (subst (λ (l : List ℕ). Exactly l (rightOf t)) (to-end m) (two .right-below)))
 
 -- named by its own words
-pub standing : (ws : List ℕ) (at len : ℕ) (t : Expr) → Stands ws at len t → Stands ws at len (treeAt (part at (at + len) ws))
+standing : (ws : List ℕ) (at len : ℕ) (t : Expr) → Stands ws at len t → Stands ws at len (treeAt (part at (at + len) ws))
 standing ws at len t x = subst (Stands ws at len) (sym (stands-tree ws at len t x)) x
 
 module _ (ws : List ℕ) (node : Part) (x : Standing ws node) where

@@ -105,7 +105,7 @@ pub(crate) fn is_masked(words: &[u64], part: Part, n: u64, width: u32) -> bool
 }
 
 // Whether the subtree is a Constant.
-pub(crate) fn is_constant_node(words: &[u64], part: Part) -> bool
+fn is_constant_node(words: &[u64], part: Part) -> bool
     requires { ⌜ Standing (now words) part × (length (now words) ≤ 1024) ⌝ }
     ensures { λ r. ⌜ r ≡ isConstantNode (partTree (now (words .entry)) part) ⌝ }
 {

@@ -242,7 +242,7 @@ module _ (ws : List ℕ) (s : Starts ws) (e : arityOf (getD ws 0 0) ≡ accepted
     right-inside = omega (arith, two-length, front-inside ws s (length (encode (treeAt ws))) refl)
 
     module _ (n : ℕ) (k : n ≡ length (encode (treeAt (tail right ws)))) where
-      pub two-words : right + n ≡ length (encode (treeAt ws))
+      two-words : right + n ≡ length (encode (treeAt ws))
       two-words = omega (arith, two-length)
 
       pub two-inside : right + n ≤ length ws

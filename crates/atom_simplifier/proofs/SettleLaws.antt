@@ -23,13 +23,13 @@ use Rattle.expr.specs.Front.{Front, Exactly, Whole, treeAt, leftOf, rightOf}
 use Rattle.expr.specs.PartLaws.{front-tree, front-part, starts-front}
 use Rattle.expr.specs.SubtreeLaws.{even-part}
 use Rattle.rewriting.specs.AtomSimplifier.{constant, not, localRewrite, firstRewrite}
-use Rattle.rewriting.specs.ShapeLaws.{Less, DeMorgan, over, Change, less, turned-over, local-change}
+use Rattle.rewriting.specs.ShapeLaws.{Less, over, Change, less, turned-over, local-change}
 use Rattle.rewriting.specs.KeptLaws.{local-operands}
 use Rattle.rewriting.specs.EndLaws.{Ends, done, NoneBelow, leaf-still, unary-below, binary-below, ends-here, ends-local, part-still}
 use Rattle.rewriting.specs.ChainLaws.{count-small}
 use Rattle.atom_simplifier.specs.declared.local.Decision.{Decision}
 use Rattle.atom_simplifier.specs.declared.local.Decision.the-variants as local
-use Rattle.atom_simplifier.specs.declared.local.Decision.the-variants.{Nothing, Part, Join}
+use Rattle.atom_simplifier.specs.declared.local.Decision.the-variants.{Nothing, Join}
 use Rattle.atom_simplifier.specs.Contracts.{Holds, Joined, Makes, Decides, Writes, Replaceable, Ready, EndsAt}
 use Rattle.atom_simplifier.proofs.local.Decision.{the-type}
 use Rattle.atom_simplifier.proofs.DecideLaws.{none-decided, some-decided, within-inside}

@@ -21,7 +21,7 @@ pub(crate) enum ConstantVal {
 }
 
 // The only place where a constant is read: its word as it stands, whatever the width.
-pub(crate) fn constant_val(part: &[u64], width: u32) -> ConstantVal
+fn constant_val(part: &[u64], width: u32) -> ConstantVal
     requires { ⌜ Whole (now part) ⌝ }
     ensures { λ r. ⌜ constantOption r ≡ constantVal width (treeAt (now (part .entry))) ⌝ }
 {
