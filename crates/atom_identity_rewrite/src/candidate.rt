@@ -25,7 +25,7 @@ pub(crate) struct Offer {
     pub candidate: Candidate,
 }
 
-// One candidate more, or none.
+// The offer after a matcher's answer: as it was where there is none or it was found before; else found, or one fewer to pass over.
 pub(crate) fn with_match(asked: Offer, tag: u64, m: Match) -> Offer
     ensures { λ r. ⌜ Offers asked tag m r ⌝ }
 {
@@ -54,7 +54,7 @@ pub(crate) fn with_match(asked: Offer, tag: u64, m: Match) -> Offer
     }
 }
 
-// Nothing was offered yet.
+// The offer for candidate `number` before any matcher.
 pub(crate) fn asked_for(number: usize) -> Offer
     ensures { λ r. ⌜ r ≡ asked number ⌝ }
 {

@@ -96,6 +96,7 @@ pub(crate) fn match_xor_via_or_minus_and(words: &[u64], node: Part) -> Match
     }
 }
 
+// The Xor of tag 2, where one side is an Or and the other an And of the same operands.
 fn xor_of_sides(words: &[u64], lhs: Part, rhs: Part) -> Match
     requires { ⌜ Standing (now words) lhs × Standing (now words) rhs × (length (now words) ≤ 1024) ⌝ }
     ensures { λ r. ⌜ Matched (now (words .entry)) r (xorOfOrAnd (partTree (now (words .entry)) lhs) (partTree (now (words .entry)) rhs) orElse xorOfOrAnd (partTree (now (words .entry)) rhs) (partTree (now (words .entry)) lhs)) ⌝ }
@@ -140,6 +141,7 @@ pub(crate) fn match_and_via_not_or_minus_not(words: &[u64], node: Part) -> Match
     }
 }
 
+// The And of tag 3, where one side is an Or with a Not and the other is this Not.
 fn and_of_sides(words: &[u64], lhs: Part, rhs: Part) -> Match
     requires { ⌜ Standing (now words) lhs × Standing (now words) rhs × (length (now words) ≤ 1024) ⌝ }
     ensures { λ r. ⌜ Matched (now (words .entry)) r (andOfOrNot (partTree (now (words .entry)) lhs) (partTree (now (words .entry)) rhs) orElse andOfOrNot (partTree (now (words .entry)) rhs) (partTree (now (words .entry)) lhs)) ⌝ }
@@ -209,6 +211,7 @@ pub(crate) fn match_and_via_not_or_plus_a_plus_one(words: &[u64], width: u32, al
     and_of_roles(words, roles)
 }
 
+// The And of tag 4, where no addend is subtracted and both the constant and the Or are there.
 fn and_of_roles(words: &[u64], roles: Roles) -> Match
     requires { ⌜ ThreeSorted (now words) roles × (length (now words) ≤ 1024) ⌝ }
     ensures { λ r. ⌜ AndOfRoles (now (words .entry)) roles r ⌝ }
@@ -248,6 +251,7 @@ pub(crate) fn match_xor_via_ornot_flat(words: &[u64], width: u32, all: Addends) 
     xor_of_roles(words, roles)
 }
 
+// The Xor of tag 5, where all four roles are there.
 fn xor_of_roles(words: &[u64], roles: Roles) -> Match
     requires { ⌜ FourSorted (now words) roles × (length (now words) ≤ 1024) ⌝ }
     ensures { λ r. ⌜ XorOfRoles (now (words .entry)) roles r ⌝ }
@@ -303,6 +307,7 @@ fn either_order(words: &[u64], l: Part, r: Part, a: Part, b: Part) -> bool
     is_and_not_of(words, r, a, l, b)
 }
 
+// Whether x is a and y is Not of b.
 fn is_and_not_of(words: &[u64], x: Part, a: Part, y: Part, b: Part) -> bool
     requires { ⌜ Standing (now words) x × Standing (now words) a × Standing (now words) y × Standing (now words) b × (length (now words) ≤ 1024) ⌝ }
     ensures { λ s. ⌜ s ≡ (exprEq (partTree (now (words .entry)) x) (partTree (now (words .entry)) a) && isNotOf (partTree (now (words .entry)) y) (partTree (now (words .entry)) b)) ⌝ }
@@ -506,6 +511,7 @@ fn exprs_equal_as_unordered_pair(words: &[u64], a: Part, b: Part, x: Part, y: Pa
     both_equal(words, a, y, b, x)
 }
 
+// Whether a is x and b is y.
 fn both_equal(words: &[u64], a: Part, x: Part, b: Part, y: Part) -> bool
     requires { ⌜ Standing (now words) a × Standing (now words) x × Standing (now words) b × Standing (now words) y × (length (now words) ≤ 1024) ⌝ }
     ensures { λ r. ⌜ r ≡ (exprEq (partTree (now (words .entry)) a) (partTree (now (words .entry)) x) && exprEq (partTree (now (words .entry)) b) (partTree (now (words .entry)) y)) ⌝ }

@@ -142,6 +142,7 @@ fn sort(words: &[u64], roles: Roles, a: Addend, unit: bool, or: Role) -> Roles
     next
 }
 
+// The roles with one addend more, which is tested for the constant and the Or of the tag.
 fn sort_by_tag(words: &[u64], tag: u64, width: u32, roles: Roles, a: Addend) -> Roles
     requires { ⌜ Named (now words) a × (length (now words) ≤ 1024) ⌝ }
     ensures { λ r. ⌜ SortsBy (now (words .entry)) tag width a roles r ⌝ }
@@ -195,6 +196,7 @@ fn lax_xor(words: &[u64], width: u32, asked: Offer, a: Addend) -> Offer
     matchers::offer_xors(words, asked, part)
 }
 
+// The offer after the candidates of one addend: the lax Ands for tag 6, the lax Xors for tag 7.
 fn lax_by_tag(words: &[u64], tag: u64, width: u32, asked: Offer, a: Addend) -> Offer
     requires { ⌜ Named (now words) a × (length (now words) ≤ 1024) ⌝ }
     ensures { λ r. ⌜ LaxBy (now (words .entry)) tag (addendOf (now (words .entry)) a) asked r ⌝ }
@@ -207,6 +209,7 @@ fn lax_by_tag(words: &[u64], tag: u64, width: u32, asked: Offer, a: Addend) -> O
 
 // ---- one addend more
 
+// What is kept after one addend more: other roles for tags 4 and 5, another offer for tags 6 and 7.
 pub(crate) fn step(words: &[u64], s: Reading, a: Addend) -> Reading
     requires { ⌜ Named (now words) a × (length (now words) ≤ 1024) ⌝ }
     ensures { λ r. ⌜ Carries (now (words .entry)) a s r ⌝ }

@@ -35,6 +35,7 @@ pub(crate) struct Pairs {
     pairs: usize,
 }
 
+// The same for the tree at the front of words, with the number of its words.
 pub(crate) struct PairsRead {
     words: usize,
     found: Pairs,
@@ -53,6 +54,7 @@ pub(crate) struct Built {
     count: usize,
 }
 
+// The numbers of a node over one child: a Not makes a pair with each And and Or below it.
 fn unary_pairs(kind: u64, child: Pairs) -> Pairs
     requires { ⌜ (child .«and_ors» ≤ 1024) × (child .pairs ≤ 1048576) ⌝ }
     ensures { λ r. ⌜ ((k : Unary) (t : Expr) → kind ≡ unaryNumber k → child ≡ counted t → r ≡ counted (unary k t)) ⌝ }
@@ -66,6 +68,7 @@ fn unary_pairs(kind: u64, child: Pairs) -> Pairs
     }
 }
 
+// The numbers of a node over two children: the sums of theirs, and an And or Or more where it is one.
 fn binary_pairs(kind: u64, left: Pairs, right: Pairs) -> Pairs
     requires { ⌜ (left .«and_ors» ≤ 1024) × (left .pairs ≤ 1048576) × (right .«and_ors» ≤ 1024) × (right .pairs ≤ 1048576) ⌝ }
     ensures { λ r. ⌜ ((k : Binary) (t u : Expr) → kind ≡ binaryNumber k → left ≡ counted t → right ≡ counted u → r ≡ counted (binary k t u)) ⌝ }
