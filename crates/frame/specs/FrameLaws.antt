@@ -9,17 +9,16 @@ use native.Mathlib.Omega.{arith}
 use lib.Dec.{leb, ltb, eqb}
 use lib.ListN.{length, take, drop, getD, length-append, length-drop, take-append-drop, List·getD-append}
 use lib.Seq.{take-at, drop-at, take-all, length-take-le, getD-append-add}
-use borrow.Author.Tests.{lt-ltb, le-ltb, le-leb, lt-leb, eq-eqb, ltb-true, ltb-false, leb-true, leb-false, eqb-true}
+use borrow.Author.Tests.{lt-ltb, le-ltb, le-leb, lt-leb, eq-eqb, ltb-true, leb-true, leb-false, eqb-true}
 use Rattle.arith.specs.Choice.{if_then_else_}
 use Rattle.arith.specs.ChoiceLaws.{both-true}
-use Rattle.expr.specs.declared.refusal.Reason.{Reason}
 use Rattle.expr.specs.Refusals.{refusal}
-use Rattle.expr.specs.Outcome.{Outcome, refused, accepted, _andThen_}
-use Rattle.expr.specs.OutcomeLaws.{then-accepted}
+use Rattle.expr.specs.Outcome.{refused, accepted, _andThen_}
+use Rattle.expr.specs.OutcomeLaws.{no-answer, same-answer, if-came, else-came, then-accepted, then-came}
 use Rattle.expr.specs.Expr.{Expr, leaf, unary, binary, encode, nodes}
 use Rattle.expr.specs.ExprLaws.{nodes-pos, length-encode}
 use Rattle.expr.specs.KindLaws.{number, operand, kind-back}
-use Rattle.expr.specs.Parse.{Kind, none, one, two, kindAt, kinds, parse, Valid}
+use Rattle.expr.specs.Parse.{Kind, none, one, two, kindAt, kinds, parse}
 use Rattle.expr.specs.ParseLaws.{parse-sound, parse-encode}
 use Rattle.width.specs.Width.{supported}
 use Rattle.width.specs.WidthLaws.{supported-is}
@@ -59,31 +58,6 @@ bytes-of-nodes m = go (leb 20 m && (leb m 9218 && eqb (m % 18) 2)) refl
         let rest = eqb-true (m % 18) 2 (q .1) in
         (omega arith, omega arith)
     go false e h = absurd (omega arith)
-
--- ---- an outcome that was accepted
-
-module _ {A B : Type 0} where
-  -- an answer of which f makes the accepted one
-  record Came (f : A → Outcome B) (o : Outcome A) (b : B) : Type 0 where
-    answer : A
-    was : o ≡ accepted answer
-    made : f answer ≡ accepted b
-
-  then-came : (f : A → Outcome B) (o : Outcome A) {b : B} → (o andThen f) ≡ accepted b → Came f o b
-  then-came f (refused r) e = absurd (let z : _≡_ {A = ℕ} 0 1 = cc in omega arith)
-  then-came f (accepted a) e = record { answer = a; was = refl; made = e }
-
-same-answer : {A : Type 0} {a b : A} → accepted a ≡ accepted b → a ≡ b
-same-answer e = cc
-
-module _ {A : Type 0} (x : Outcome A) {a : A} (r : Reason) where
-  if-came : (b : Bool) → (if b then x else refused r) ≡ accepted a → (b ≡ true) × (x ≡ accepted a)
-  if-came true e = (refl, e)
-  if-came false e = absurd (let z : _≡_ {A = ℕ} 0 1 = cc in omega arith)
-
-  else-came : (b : Bool) → (if b then refused r else x) ≡ accepted a → (b ≡ false) × (x ≡ accepted a)
-  else-came true e = absurd (let z : _≡_ {A = ℕ} 0 1 = cc in omega arith)
-  else-came false e = (refl, e)
 
 -- ---- lines
 
@@ -136,15 +110,7 @@ unended-last (c ∷ d ∷ bs) b = ap (λ (l : List ℕ). c ∷ l) (unended-last 
 
 -- ---- what is accepted
 
--- an accepted line: its bytes, its width and its tree
-pub record IsFrame (line : List ℕ) (room w : ℕ) (t : Expr) : Type 0 where
-  pub lined : Lined (unended line) w (encode t)
-  pub width-ok : supported w ≡ true
-  pub valid : Valid t
-  pub fits : 2 * nodes t ≤ room
-
-framed-is : (room w : ℕ) (ws : List ℕ) (v : ℕ) (t : Expr) → framed room (w, ws) ≡ accepted (v, t)
-    → (w ≡ v) × (supported w ≡ true) × (parse ws ≡ accepted t) × (2 * nodes t ≤ room)
+framed-is : (room w : ℕ) (ws : List ℕ) (v : ℕ) (t : Expr) → framed room (w, ws) ≡ accepted (v, t) → (w ≡ v) × (ws ≡ encode t)
 unfolding framed withWords
 framed-is room w ws v t e =
     let last = then-came (λ u. accepted (w, u)) (checked w ws andThen withWords room) e in
@@ -153,22 +119,17 @@ framed-is room w ws v t e =
     let room-is = else-came (accepted (read .answer)) (refusal 9) (ltb room (2 * nodes (read .answer))) (read .made) in
     let same = same-answer (last .made) in
     let tree : read .answer ≡ t = same-answer (room-is .1) ∙ ap (λ q. q .1) same in
-    (ap (λ q. q .0) same, passed .0, passed .1 ∙ ap accepted tree, subst (λ (u : Expr). 2 * nodes u ≤ room) tree (ltb-false room (2 * nodes (read .answer)) (room-is .0)))
+    (ap (λ q. q .0) same, parse-sound ws t (passed .1 ∙ ap accepted tree) .words)
 
-pub frame-is : (line : List ℕ) (room w : ℕ) (t : Expr) → readFrame line room ≡ accepted (w, t) → IsFrame line room w t
+-- an accepted line is its width and its tree's words
+frame-lined : (line : List ℕ) (room w : ℕ) (t : Expr) → readFrame line room ≡ accepted (w, t) → Lined (unended line) w (encode t)
 unfolding readFrame
-frame-is line room w t e =
+frame-lined line room w t e =
     let c = then-came (framed room) (lineWords (unended line)) e in
     let v = c .answer .0 in
     let ws = c .answer .1 in
     let p = framed-is room v ws w t (c .made) in
-    let a = parse-sound ws t (p .2) in
-    record {
-      lined = subst (λ (x : ℕ). Lined (unended line) x (encode t)) (p .0) (subst (Lined (unended line) v) (a .words) (line-is (unended line) v ws (c .was)));
-      width-ok = ap supported (sym (p .0)) ∙ p .1;
-      valid = a .valid;
-      fits = p .3;
-    }
+    subst (λ (x : ℕ). Lined (unended line) x (encode t)) (p .0) (subst (Lined (unended line) v) (p .1) (line-is (unended line) v ws (c .was)))
 
 -- ---- read and written back
 
@@ -176,9 +137,8 @@ frame-is line room w t e =
 pub write-back : (line : List ℕ) (room w : ℕ) (t : Expr) → readFrame line room ≡ accepted (w, t) → frame w t ≡ unended line ++ (10 ∷ [])
 unfolding frame
 write-back line room w t e =
-    let i = frame-is line room w t e in
     let bs : List ℕ = unended line in
-    let l = i .lined in
+    let l = frame-lined line room w t e in
     let m = bytes-of-nodes (length bs) (l .some) in
     let n : nodes t ≡ nodesIn (length bs) = omega (arith, length-encode t, ap length (l .words-are), length-words (nodesIn (length bs)) (drop 2 bs)) in
     let width : digits 2 w ≡ take 2 bs = ap (digits 2) (l .width-is) ∙ digits-number (take 2 bs) 2 (length-take-le 2 bs (omega arith)) (all-take bs 2 (l .good)) in
@@ -192,7 +152,7 @@ write-back line room w t e =
 
 place-within : (k : ℕ) (κs : List Kind) {κ : Kind} → kindAt k κs ≡ accepted κ → k < length κs
 unfolding kindAt
-place-within k [] e = absurd (let z : _≡_ {A = ℕ} 0 1 = cc in omega arith)
+place-within k [] e = absurd (no-answer e)
 place-within zero (κ ∷ κs) e = omega arith
 place-within (suc k) (κ ∷ κs) e = let h = place-within k κs e in omega arith
 

@@ -1,5 +1,5 @@
 -- A value is a number of w bits; what a tree of one width is. Assumes nothing.
-use mathlib.Core.Path.{_≡_, refl, sym, ap, subst, _∙_}
+use mathlib.Core.Path.{_≡_, sym, ap, subst, _∙_}
 use mathlib.Core.Bool.{Bool, true, false}
 use mathlib.Core.List.{List}
 use Prim.Native.Nat.{ℕ, _-_, _/_, _^_, _≤_, _<_}
@@ -11,8 +11,8 @@ use lib.Pow.{pow-pos, ones-sub-lt, shr-le}
 use lib.Bits.{and-lt, or-lt, xor-lt}
 use Rattle.arith.specs.Choice.{if_then_else_}
 use Rattle.expr.specs.Refusals.{refusal}
-use Rattle.expr.specs.Outcome.{Outcome, refused, accepted, _andThen_}
-use Rattle.expr.specs.OutcomeLaws.{then-accepted}
+use Rattle.expr.specs.Outcome.{accepted, _andThen_}
+use Rattle.expr.specs.OutcomeLaws.{same-answer, if-came, then-accepted, then-came}
 use Rattle.expr.specs.Parse.{parse}
 use Rattle.width.specs.Width.{isUniformWidth}
 use Rattle.width.specs.WidthLaws.{in-range, supported-is}
@@ -61,23 +61,17 @@ pub record OneWidth (ws : List ℕ) (w : ℕ) (widths : List ℕ) (t : Expr) : T
 module _ (ws : List ℕ) (w : ℕ) (widths : List ℕ) (t : Expr) where
   pub one-width-sound : oneWidth ws w widths ≡ accepted t → OneWidth ws w widths t
   unfolding oneWidth
-  one-width-sound e = passed (checked w ws) refl e
-    where
-      kept : (u : Expr) → checked w ws ≡ accepted u → (b : Bool) → isUniformWidth widths w u ≡ b → (if b then accepted u else refused (refusal 8)) ≡ accepted t → OneWidth ws w widths t
-      kept u p true q f =
-          let i : u ≡ t = cc in
-          let c = checked-is w ws u p in
-          record {
-            parsed = c .1 ∙ ap accepted i;
-            is-uniform = subst (λ (v : Expr). isUniformWidth widths w v ≡ true) i q;
-            at-least = supported-is w (c .0) .0;
-            at-most = supported-is w (c .0) .1;
-          }
-      kept u p false q f = absurd (let z : _≡_ {A = ℕ} 0 1 = cc in omega arith)
-
-      passed : (o : Outcome Expr) → checked w ws ≡ o → (o andThen uniform widths w) ≡ accepted t → OneWidth ws w widths t
-      passed (refused r) p f = absurd (let z : _≡_ {A = ℕ} 0 1 = cc in omega arith)
-      passed (accepted u) p f = kept u p (isUniformWidth widths w u) refl f
+  one-width-sound e =
+      let m = then-came (uniform widths w) (checked w ws) e in
+      let c = checked-is w ws (m .answer) (m .was) in
+      let k = if-came (accepted (m .answer)) (refusal 8) (isUniformWidth widths w (m .answer)) (m .made) in
+      let i : m .answer ≡ t = same-answer (k .1) in
+      record {
+        parsed = c .1 ∙ ap accepted i;
+        is-uniform = subst (λ (v : Expr). isUniformWidth widths w v ≡ true) i (k .0);
+        at-least = supported-is w (c .0) .0;
+        at-most = supported-is w (c .0) .1;
+      }
 
   pub one-width-complete : OneWidth ws w widths t → oneWidth ws w widths ≡ accepted t
   unfolding oneWidth checked

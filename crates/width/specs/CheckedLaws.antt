@@ -1,15 +1,14 @@
 -- What follows a check at a width. Assumes nothing.
-use mathlib.Core.Path.{_≡_, refl, sym, ap, _∙_}
-use mathlib.Core.Bool.{Bool, true, false}
+use mathlib.Core.Path.{_≡_, sym, ap, _∙_}
+use mathlib.Core.Bool.{true}
 use mathlib.Core.List.{List}
 use Prim.Native.Nat.{ℕ, _≤_}
 use native.Mathlib.Omega.{arith}
-use Rattle.arith.specs.Choice.{if_then_else_}
 use Rattle.expr.specs.declared.Counted.{Counted}
 use Rattle.expr.specs.declared.Counted.the-variants as counted
 use Rattle.expr.specs.Refusals.{refusal}
-use Rattle.expr.specs.Outcome.{refused, accepted, mapped}
-use Rattle.expr.specs.OutcomeLaws.{mapped-made}
+use Rattle.expr.specs.Outcome.{accepted, mapped}
+use Rattle.expr.specs.OutcomeLaws.{if-came, mapped-made}
 use Rattle.expr.specs.Expr.{Expr, encode, nodes}
 use Rattle.expr.specs.Parse.{parse}
 use Rattle.expr.specs.ParseLaws.{parse-sound}
@@ -20,11 +19,7 @@ use Rattle.width.specs.Checked.{checked}
 -- words that pass are accepted, and the width is supported
 pub checked-is : (w : ℕ) (ws : List ℕ) (t : Expr) → checked w ws ≡ accepted t → (supported w ≡ true) × (parse ws ≡ accepted t)
 unfolding checked
-checked-is w ws t = go (supported w)
-  where
-    go : (b : Bool) → (if b then parse ws else refused (refusal 1)) ≡ accepted t → (b ≡ true) × (parse ws ≡ accepted t)
-    go true e = (refl, e)
-    go false e = absurd (let z : _≡_ {A = ℕ} 0 1 = cc in omega arith)
+checked-is w ws t = if-came (parse ws) (refusal 1) (supported w)
 
 -- a tree that was checked, and how many nodes it has
 pub record Tree (w : ℕ) (ws : List ℕ) (n : ℕ) : Type 0 where

@@ -1,10 +1,11 @@
 -- Which widths are supported, and that the others are refused. Assumes nothing.
-use mathlib.Core.Path.{_≡_, refl, sym, ap, ap₂}
+use mathlib.Core.Path.{_≡_, sym, ap, ap₂}
 use mathlib.Core.Bool.{Bool, true, false, _&&_}
 use Prim.Native.Nat.{ℕ, _≤_, _<_}
 use native.Mathlib.Omega.{arith}
 use lib.Dec.{leb}
 use borrow.Author.Tests.{le-leb, lt-leb, leb-true}
+use Rattle.arith.specs.ChoiceLaws.{both-true}
 use Rattle.expr.specs.Refusals.{carrying}
 use Rattle.expr.specs.Outcome.{refused, accepted}
 use Rattle.width.specs.Width.{supported, ranged}
@@ -25,12 +26,7 @@ module _ (w : ℕ) where
   -- and no other
   pub supported-is : supported w ≡ true → (1 ≤ w) × (w ≤ 64)
   unfolding supported
-  supported-is e = go (leb 1 w) (leb w 64) refl refl e
-    where
-      go : (a c : Bool) → leb 1 w ≡ a → leb w 64 ≡ c → (a && c) ≡ true → (1 ≤ w) × (w ≤ 64)
-      go true true f g h = (leb-true 1 w f, leb-true w 64 g)
-      go true false f g h = absurd (let z : _≡_ {A = ℕ} 0 1 = cc in omega arith)
-      go false c f g h = absurd (let z : _≡_ {A = ℕ} 0 1 = cc in omega arith)
+  supported-is e = let p = both-true (leb 1 w) (leb w 64) e in (leb-true 1 w (p .0), leb-true w 64 (p .1))
 
   pub ranged-yes : supported w ≡ true → ranged w ≡ accepted w
   unfolding ranged
