@@ -6,30 +6,28 @@ use mathlib.Core.Option.{Option, none, some}
 use Prim.Native.Nat.{ℕ, zero, suc, _+_, _*_, _-_, _/_, _≤_, _<_}
 use native.Mathlib.Nat.{add-zero}
 use native.Mathlib.Omega.{arith}
-use lib.Dec.{eqb, ltb}
+use lib.Dec.{eqb}
 use lib.ListN.{length, getD}
 use lib.Seq.{take-all}
 use mir.Syntax.{w64}
 use mir.Val.{Fits}
-use borrow.Author.Tests.{eq-eqb, ne-eqb, lt-ltb, le-ltb, ltb-false, not-true, not-false}
+use borrow.Author.Tests.{eq-eqb, ne-eqb, not-true, not-false}
 use Rattle.arith.specs.Choice.{if_then_else_}
-use Rattle.expr.specs.declared.refusal.Reason.{Reason}
 use Rattle.expr.specs.declared.refusal.Refusal.{Refusal}
 use Rattle.expr.specs.declared.Counted.{Counted}
 use Rattle.expr.specs.declared.Counted.the-variants as counted
 use Rattle.expr.specs.Refusals.{refusal, reasonOf}
 use Rattle.expr.specs.Outcome.{Outcome, refused, accepted, mapped, _andThen_}
-use Rattle.expr.specs.OutcomeLaws.{then-accepted, mapped-accepted, mapped-made, refused-then, refused-mapped}
+use Rattle.expr.specs.OutcomeLaws.{mapped-accepted, mapped-made, refused-then, refused-mapped}
 use Rattle.expr.specs.Expr.{Constant, Variable, Unary, Not, Neg, Shr, ZExt, SExt, Trunc, Expr, leaf, unary, binary, unaryNumber, binaryNumber, encode, nodes}
 use Rattle.expr.specs.ExprLaws.{length-encode}
-use Rattle.expr.specs.ParseLaws.{parse-sound}
 use Rattle.expr.specs.Answers.{countedOutcome}
 use Rattle.expr.specs.Parts.{part}
 use Rattle.expr.specs.Lent.{lentAfter}
 use Rattle.expr.specs.Front.{Exactly, Whole, treeAt}
 use Rattle.expr.specs.PartLaws.{parts, exact-tree, exact-whole, exact-length}
 use Rattle.width.specs.Checked.{checked, withWords}
-use Rattle.width.specs.CheckedLaws.{checked-is, Tree, checked-tree}
+use Rattle.width.specs.CheckedLaws.{Tree, checked-tree, too-little, enough, Admitted, admitted-sound}
 use Rattle.rewriting.specs.MatchLaws.{neg-number}
 use Rattle.rewriting.specs.AtomIdentityRewrite as def
 use Rattle.rewriting.specs.AtomIdentityRewrite.{toList, matchXorAndAbsorb, matchXorViaOrMinusAnd, matchAndViaNotOrMinusNot, flattenAddends, laxAnd, laxXor, each, isAdd, tagged, laxCandidates, candidates}
@@ -185,17 +183,11 @@ module _ (ws : List ℕ) (w room : ℕ) (x : Counted) (h : countedOutcome x ≡ 
     found : Tree w ws n
     found = checked-tree w ws x h n e
 
-    roomed : (b : Bool) → ltb room (2 * n) ≡ b → (checked w ws andThen withWords room) ≡ (if b then refused (refusal 9) else accepted (found .tree))
-    unfolding withWords
-    roomed b f =
-        then-accepted (found .is) (withWords room)
-        ∙ ap (λ (c : Bool). if c then refused (refusal 9) else accepted (found .tree)) (ap (λ (i : ℕ). ltb room (2 * i)) (found .count) ∙ f)
-
     pub room-refused : room < 2 * n → refused (refusal 9) ≡ mapped nodes (checked w ws andThen withWords room)
-    room-refused f = sym (ap (mapped nodes) (roomed true (lt-ltb room (2 * n) f)))
+    room-refused f = let l : room < 2 * nodes (found .tree) = omega (arith, found .count) in sym (ap (mapped nodes) (too-little _ room (found .is) l))
 
     pub admits : 2 * n ≤ room → accepted n ≡ mapped nodes (checked w ws andThen withWords room)
-    admits f = sym (ap (mapped nodes) (roomed false (le-ltb room (2 * n) f)) ∙ ap accepted (found .count))
+    admits f = let l : 2 * nodes (found .tree) ≤ room = omega (arith, found .count) in sym (ap (mapped nodes) (enough _ room (found .is) l) ∙ ap accepted (found .count))
 
     pub words-fit : Fits w64 (2 * n)
     words-fit = omega (arith, found .few)
@@ -272,30 +264,6 @@ pub ruleset handing = (not-true, not-false, left-less, no-more, found-writable, 
 
 -- ---- `try_match_all`
 
--- a tree that was admitted
-record Admitted (ws : List ℕ) (room : ℕ) (t : Expr) : Type 0 where
-  exact : Exactly ws t
-  few : nodes t ≤ 512
-  holds : 2 * nodes t ≤ room
-
-admitted-sound : (ws : List ℕ) (w room : ℕ) (t : Expr) → (checked w ws andThen withWords room) ≡ accepted t → Admitted ws room t
-unfolding withWords
-admitted-sound ws w room t e = parsed (checked w ws) refl e
-  where
-    no : {A : Type 0} {r : Reason} {s : Expr} → _≡_ {A = Outcome Expr} (refused r) (accepted s) → A
-    no f = absurd (let z : _≡_ {A = ℕ} 0 1 = cc in omega arith)
-
-    roomy : (u : Expr) → checked w ws ≡ accepted u → (b : Bool) → ltb room (2 * nodes u) ≡ b → (if b then refused (refusal 9) else accepted u) ≡ accepted t → Admitted ws room t
-    roomy u p true q f = no f
-    roomy u p false q f =
-        let i : u ≡ t = cc in
-        let v = parse-sound ws u (checked-is w ws u p .1) in
-        subst (Admitted ws room) i (record { exact = record { words = v .words; operands = v .valid .operands }; few = v .valid .count; holds = ltb-false room (2 * nodes u) q })
-
-    parsed : (o : Outcome Expr) → checked w ws ≡ o → (o andThen withWords room) ≡ accepted t → Admitted ws room t
-    parsed (refused r) p f = no f
-    parsed (accepted u) p f = roomy u p (ltb room (2 * nodes u)) refl f
-
 module _ (ws : List ℕ) (w number room : ℕ) (x : Counted) (h : countedOutcome x ≡ mapped nodes (checked w ws andThen withWords room)) where
   module _ (r : Refusal) (e : x ≡ counted.Refused r) where
     turned : candidateAt ws w number room ≡ refused (reasonOf r)
@@ -316,8 +284,8 @@ module _ (ws : List ℕ) (w number room : ℕ) (x : Counted) (h : countedOutcome
     unfolding t
     was = mapped-made nodes (checked w ws andThen withWords room) (ap countedOutcome (sym e) ∙ h) .was
 
-    a : Admitted ws room t
-    a = admitted-sound ws w room t was
+    a : Admitted (λ u. 2 * nodes u) ws w room t
+    a = admitted-sound _ ws w room t was
 
     pub call-whole : Whole ws
     call-whole = exact-whole ws t (a .exact)

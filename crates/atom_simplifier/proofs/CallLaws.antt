@@ -1,5 +1,5 @@
 -- The two public calls: what is checked, answered and written. Assumes nothing.
-use mathlib.Core.Path.{_≡_, refl, sym, ap, ap₂, subst, _∙_}
+use mathlib.Core.Path.{_≡_, sym, ap, ap₂, subst, _∙_}
 use mathlib.Core.Bool.{Bool, true, false}
 use mathlib.Core.List.{List}
 use mathlib.Core.Option.{Option, none, some}
@@ -9,24 +9,21 @@ use lib.Dec.{ltb}
 use lib.ListN.{length}
 use mir.Syntax.{w64}
 use mir.Val.{Fits}
-use borrow.Author.Tests.{lt-ltb, le-ltb, ltb-false}
+use borrow.Author.Tests.{lt-ltb, le-ltb}
 use Rattle.arith.specs.Choice.{if_then_else_}
-use Rattle.expr.specs.declared.refusal.Reason.{Reason}
 use Rattle.expr.specs.declared.refusal.Refusal.{Refusal}
 use Rattle.expr.specs.declared.Counted.{Counted}
 use Rattle.expr.specs.declared.Counted.the-variants as counted
 use Rattle.expr.specs.Refusals.{refusal, reasonOf}
-use Rattle.expr.specs.Outcome.{Outcome, refused, accepted, mapped, _andThen_}
+use Rattle.expr.specs.Outcome.{Outcome, refused, accepted, mapped}
 use Rattle.expr.specs.OutcomeLaws.{then-accepted, mapped-accepted, mapped-made, refused-then, refused-mapped}
 use Rattle.expr.specs.Expr.{Expr, encode, nodes, depth}
 use Rattle.expr.specs.ExprLaws.{length-encode}
-use Rattle.expr.specs.ParseLaws.{parse-sound}
 use Rattle.expr.specs.Answers.{countedOutcome}
-use Rattle.expr.specs.Front.{Starts, Exactly, Whole, treeAt}
+use Rattle.expr.specs.Front.{Starts, Whole, treeAt}
 use Rattle.expr.specs.PartLaws.{exact-front, exact-tree, exact-whole}
 use Rattle.width.specs.Checked.{checked}
-use Rattle.width.specs.CheckedLaws.{checked-is, Tree, checked-tree}
-use Rattle.width.specs.WidthLaws.{supported-is}
+use Rattle.width.specs.CheckedLaws.{Tree, checked-tree, too-little, enough, Admitted, admitted-sound}
 use Rattle.rewriting.specs.Optional.{map}
 use Rattle.rewriting.specs.AtomSimplifier as def
 use Rattle.rewriting.specs.AtomSimplifier.{localRewrite, firstSite}
@@ -53,17 +50,13 @@ module _ (ws : List ℕ) (w room : ℕ) (x : Counted) (h : countedOutcome x ≡ 
     m : Tree w ws n
     m = checked-tree w ws x h n e
 
-    roomed : (b : Bool) → ltb room (2 * (n + 1)) ≡ b → admitted ws w room ≡ (if b then refused (refusal 9) else accepted (m .tree))
-    unfolding admitted withRoom
-    roomed b f =
-        then-accepted (m .is) (withRoom room)
-        ∙ ap (λ (c : Bool). if c then refused (refusal 9) else accepted (m .tree)) (ap (λ (i : ℕ). ltb room (2 * (i + 1))) (m .count) ∙ f)
-
     pub room-refused : room < 2 * (n + 1) → refused (refusal 9) ≡ mapped nodes (admitted ws w room)
-    room-refused f = sym (ap (mapped nodes) (roomed true (lt-ltb room (2 * (n + 1)) f)))
+    unfolding admitted
+    room-refused f = let l : room < 2 * (nodes (m .tree) + 1) = omega (arith, m .count) in sym (ap (mapped nodes) (too-little _ room (m .is) l))
 
     pub admits : 2 * (n + 1) ≤ room → accepted n ≡ mapped nodes (admitted ws w room)
-    admits f = sym (ap (mapped nodes) (roomed false (le-ltb room (2 * (n + 1)) f)) ∙ ap accepted (m .count))
+    unfolding admitted
+    admits f = let l : 2 * (nodes (m .tree) + 1) ≤ room = omega (arith, m .count) in sym (ap (mapped nodes) (enough _ room (m .is) l) ∙ ap accepted (m .count))
 
     pub count-fits : Fits w64 (n + 1)
     count-fits = omega (arith, m .few)
@@ -75,38 +68,6 @@ pub ruleset admitting = (words-refused, room-refused, admits, count-fits, room-f
 
 -- ---- a tree that was admitted
 
-record Admitted (ws : List ℕ) (w room : ℕ) (t : Expr) : Type 0 where
-  exact : Exactly ws t
-  few : nodes t ≤ 512
-  levels : depth t ≤ 64
-  at-most : w ≤ 64
-  holds : 2 * (nodes t + 1) ≤ room
-
-admitted-sound : (ws : List ℕ) (w room : ℕ) (t : Expr) → admitted ws w room ≡ accepted t → Admitted ws w room t
-unfolding admitted withRoom
-admitted-sound ws w room t e = passed (checked w ws) refl e
-  where
-    no : {A : Type 0} {r : Reason} {s : Expr} → _≡_ {A = Outcome Expr} (refused r) (accepted s) → A
-    no f = absurd (let z : _≡_ {A = ℕ} 0 1 = cc in omega arith)
-
-    roomy : (u : Expr) → checked w ws ≡ accepted u → (b : Bool) → ltb room (2 * (nodes u + 1)) ≡ b → (if b then refused (refusal 9) else accepted u) ≡ accepted t → Admitted ws w room t
-    roomy u p true q f = no f
-    roomy u p false q f =
-        let i : u ≡ t = cc in
-        let c = checked-is w ws u p in
-        let v = parse-sound ws u (c .1) in
-        subst (Admitted ws w room) i (record {
-          exact = record { words = v .words; operands = v .valid .operands };
-          few = v .valid .count;
-          levels = v .valid .levels;
-          at-most = supported-is w (c .0) .1;
-          holds = ltb-false room (2 * (nodes u + 1)) q;
-        })
-
-    passed : (o : Outcome Expr) → checked w ws ≡ o → (o andThen withRoom room) ≡ accepted t → Admitted ws w room t
-    passed (refused r) p f = no f
-    passed (accepted u) p f = roomy u p (ltb room (2 * (nodes u + 1))) refl f
-
 module _ (ws : List ℕ) (w room : ℕ) (x : Counted) (h : countedOutcome x ≡ mapped nodes (admitted ws w room)) where
   module _ (n : ℕ) (e : x ≡ counted.Count n) where
     t : Expr
@@ -116,8 +77,9 @@ module _ (ws : List ℕ) (w room : ℕ) (x : Counted) (h : countedOutcome x ≡ 
     unfolding t
     was = mapped-made nodes (admitted ws w room) (ap countedOutcome (sym e) ∙ h) .was
 
-    a : Admitted ws w room t
-    a = admitted-sound ws w room t was
+    a : Admitted (λ u. 2 * (nodes u + 1)) ws w room t
+    unfolding admitted
+    a = admitted-sound _ ws w room t was
 
     tree-is : treeAt ws ≡ t
     tree-is = exact-tree ws t (a .exact)

@@ -1,23 +1,19 @@
 -- The public chain: what is checked, the end tree and the zeros behind it, and the whole promise. Assumes nothing.
 use mathlib.Core.Path.{_≡_, refl, sym, ap, ap₂, subst, _∙_}
-use mathlib.Core.Bool.{Bool, true, false}
 use mathlib.Core.List.{List, _++_}
 use Prim.Native.Nat.{ℕ, _+_, _*_, _-_, _/_, _≤_, _<_}
 use native.Mathlib.Omega.{arith}
-use lib.Dec.{ltb}
 use lib.ListN.{length, take, replicate, length-append, length-replicate}
 use lib.Seq.{take-at}
 use mir.Syntax.{w64}
 use mir.Val.{Fits}
-use borrow.Author.Tests.{lt-ltb, le-ltb}
 use borrow.Rule.Slice.PartMut.{putMid}
-use Rattle.arith.specs.Choice.{if_then_else_}
 use Rattle.expr.specs.declared.refusal.Refusal.{Refusal}
 use Rattle.expr.specs.declared.Counted.{Counted}
 use Rattle.expr.specs.declared.Counted.the-variants as count
 use Rattle.expr.specs.Refusals.{refusal, reasonOf}
 use Rattle.expr.specs.Outcome.{Outcome, refused, accepted, mapped}
-use Rattle.expr.specs.OutcomeLaws.{then-accepted, Made, mapped-made, refused-then}
+use Rattle.expr.specs.OutcomeLaws.{Made, mapped-made, refused-then}
 use Rattle.expr.specs.Expr.{Expr, encode, nodes}
 use Rattle.expr.specs.ExprLaws.{length-encode}
 use Rattle.expr.specs.Parse.{Accepts}
@@ -29,6 +25,7 @@ use Rattle.expr.specs.Front.{Front, Starts, Read, Gives, treeAt}
 use Rattle.expr.specs.FrontLaws.{parse-front}
 use Rattle.expr.specs.PartLaws.{front-tree}
 use Rattle.expr.specs.LentLaws.{put-tail}
+use Rattle.width.specs.CheckedLaws.{too-little, enough}
 use Rattle.value.specs.Value.{oneWidth}
 use Rattle.value.specs.ValueLaws.{OneWidth, one-width-sound, one-width-complete}
 use Rattle.rewriting.specs.Measures.{D}
@@ -152,19 +149,14 @@ module _ (ws : List ℕ) (w : ℕ) (widths : List ℕ) (x : Counted) (h : counte
       pub room-fits : Fits w64 (2 * (n + v .pairs))
       room-fits = omega (arith, few, m .made, accepts .valid .count)
 
-      admits : (room : ℕ) (b : Bool) → ltb room (2 * (n + v .pairs)) ≡ b → chainAdmitted ws w widths room ≡ (if b then refused (refusal 9) else accepted t)
-      unfolding chainAdmitted withWork
-      admits room b f =
-          then-accepted (m .was) (withWork room)
-          ∙ ap (λ (c : Bool). if c then refused (refusal 9) else accepted t) (ap₂ (λ (i j : ℕ). ltb room (2 * (i + j))) (m .made) (sym pairs-are) ∙ f)
+      need-is : 2 * (nodes t + D t) ≡ 2 * (n + v .pairs)
+      need-is = omega (arith, m .made, pairs-are)
 
       pub work-too-small : (work : List ℕ) → length work < 2 * (n + v .pairs) → ChainGives (chainAdmitted ws w widths (length work)) w widths work work (refused (refusal 9))
-      unfolding ChainIs
-      work-too-small work f = record {
-        is =
-            subst (λ (a : Outcome Expr). ChainIs a w widths work work (refused (refusal 9)))
-            (sym (admits (length work) true (lt-ltb (length work) (2 * (n + v .pairs)) f))) (refl, refl);
-      }
+      unfolding ChainIs chainAdmitted
+      work-too-small work f =
+          let l : length work < 2 * (nodes t + D t) = omega (arith, need-is) in
+          record { is = subst (λ (a : Outcome Expr). ChainIs a w widths work work (refused (refusal 9))) (sym (too-little _ (length work) (m .was) l)) (refl, refl) }
 
     -- ---- the end tree in the work
 
@@ -183,14 +175,15 @@ module _ (ws : List ℕ) (w : ℕ) (widths : List ℕ) (x : Counted) (h : counte
         after = putMid len (length built - len) built cleared
 
         pub chain-answered : ChainGives (chainAdmitted ws w widths (length work)) w widths work after (accepted (len / 2, steps))
-        unfolding ChainIs
+        unfolding ChainIs chainAdmitted
         chain-answered =
             let u = i .comes .tree in
+            let enough-work : 2 * (nodes t + D t) ≤ length work = omega (arith, need-is spans v p) in
             let half : len / 2 ≡ nodes u = omega (arith, i .comes .len-is, length-encode u) in
             record {
               is =
                   subst (λ (a : Outcome Expr). ChainIs a w widths work after (accepted (len / 2, steps)))
-                  (sym (admits spans v p (length work) false (le-ltb (length work) (2 * (n + v .pairs)) f))) (
+                  (sym (enough _ (length work) (m .was) enough-work)) (
                     len / 2,
                     steps,
                     refl,

@@ -8,15 +8,15 @@ use Rattle.expr.specs.Refusals.{refusal}
 use Rattle.expr.specs.Outcome.{Outcome, refused, accepted, mapped, _andThen_}
 use Rattle.expr.specs.Expr.{Expr, nodes}
 use Rattle.expr.specs.Lent.{lentAfter}
-use Rattle.width.specs.Checked.{checked}
+use Rattle.width.specs.Checked.{checked, roomFor}
 use Rattle.value.specs.Value.{oneWidth}
 use Rattle.rewriting.specs.Optional.{map, _otherwise_}
 use Rattle.rewriting.specs.Measures.{D}
 use Rattle.rewriting.specs.AtomSimplifier.{Site, localRewrite, firstSite}
 
 -- 9 where an output of so many words has no room for one node more than the tree has
-unfoldable pub withRoom : ℕ → Expr → Outcome Expr
-withRoom room t = if ltb room (2 * (nodes t + 1)) then refused (refusal 9) else accepted t
+abbrev pub withRoom : ℕ → Expr → Outcome Expr
+withRoom = roomFor (λ t. 2 * (nodes t + 1))
 
 -- the tree that is rewritten, or the refusal: 1, then 2 to 7, then 9
 unfoldable pub admitted : List ℕ → ℕ → ℕ → Outcome Expr
@@ -32,8 +32,8 @@ firstSiteAt ws w bytes room =
     admitted ws w room andThen (λ t. if ltb bytes 63 then refused (refusal 9) else accepted (firstSite w t))
 
 -- 9 where so many words of work, in document 01's terms the lent words in which a chain builds its end tree, have no room for n + D nodes
-unfoldable pub withWork : ℕ → Expr → Outcome Expr
-withWork room t = if ltb room (2 * (nodes t + D t)) then refused (refusal 9) else accepted t
+abbrev pub withWork : ℕ → Expr → Outcome Expr
+withWork = roomFor (λ t. 2 * (nodes t + D t))
 
 -- `chain`: the tree that it starts from, or the refusal: 1 to 8, then 9
 unfoldable pub chainAdmitted : List ℕ → ℕ → List ℕ → ℕ → Outcome Expr

@@ -7,14 +7,13 @@ use lib.ListN.{length, drop, set, getD, length-append, length-set}
 use lib.Seq.{drop-cons, set-at}
 use mir.Syntax.{w64}
 use mir.Val.{Fits}
-use borrow.Author.Tests.{lt-ltb, le-ltb}
 use borrow.Rule.Slice.PartMut.{putMid}
 use Rattle.expr.specs.declared.refusal.Refusal.{Refusal}
 use Rattle.expr.specs.declared.Counted.{Counted}
 use Rattle.expr.specs.declared.Counted.the-variants as counted
 use Rattle.expr.specs.Refusals.{refusal, reasonOf}
 use Rattle.expr.specs.Outcome.{Outcome, refused, accepted, mapped}
-use Rattle.expr.specs.OutcomeLaws.{then-accepted, refused-then}
+use Rattle.expr.specs.OutcomeLaws.{refused-then}
 use Rattle.expr.specs.Expr.{Expr, nodes}
 use Rattle.expr.specs.ExprLaws.{length-encode}
 use Rattle.expr.specs.Answers.{countedOutcome}
@@ -28,7 +27,7 @@ use Rattle.hex.specs.Nodes.{nodesText}
 use Rattle.hex.specs.NodesLaws.{length-nodes}
 use Rattle.frame.specs.Frame.{frame, withBytes, writeFrame}
 use Rattle.width.specs.Checked.{checked}
-use Rattle.width.specs.CheckedLaws.{Tree, checked-tree}
+use Rattle.width.specs.CheckedLaws.{Tree, checked-tree, too-little, enough}
 
 -- ---- `put_frame`
 
@@ -89,10 +88,6 @@ module _ (w : ℕ) (ws : List ℕ) (room : ℕ) (x : Counted) (h : countedOutcom
     half : length ws / 2 ≡ n
     half = omega (arith, ap length (found .words), length-encode (found .tree), found .count)
 
-    roomed : writeFrame ws w room ≡ withBytes room (found .tree)
-    unfolding writeFrame
-    roomed = then-accepted (found .is) (withBytes room)
-
     pub nodes-fit : Fits w64 (18 * n)
     nodes-fit = omega (arith, found .few)
 
@@ -101,8 +96,8 @@ module _ (w : ℕ) (ws : List ℕ) (room : ℕ) (x : Counted) (h : countedOutcom
 
     module _ (l : room < 3 + 18 * n) where
       no-room : writeFrame ws w room ≡ refused (refusal 9)
-      unfolding withBytes
-      no-room = roomed ∙ rw (lt-ltb room (3 + 18 * nodes (found .tree)) (omega (arith, found .count)))
+      unfolding writeFrame
+      no-room = too-little _ room (found .is) (let f : room < 3 + 18 * nodes (found .tree) = omega (arith, found .count) in f)
 
       pub room-answer : refused (refusal 9) ≡ mapped (λ t. 3 + 18 * nodes t) (writeFrame ws w room)
       room-answer = sym (ap (mapped (λ t. 3 + 18 * nodes t)) no-room)
@@ -112,8 +107,8 @@ module _ (w : ℕ) (ws : List ℕ) (room : ℕ) (x : Counted) (h : countedOutcom
 
     module _ (l : 3 + 18 * n ≤ room) where
       with-room : writeFrame ws w room ≡ accepted (found .tree)
-      unfolding withBytes
-      with-room = roomed ∙ rw (le-ltb room (3 + 18 * nodes (found .tree)) (omega (arith, found .count)))
+      unfolding writeFrame
+      with-room = enough _ room (found .is) (let f : 3 + 18 * nodes (found .tree) ≤ room = omega (arith, found .count) in f)
 
       pub frame-fits : 3 + 18 * (length ws / 2) ≤ room
       frame-fits = omega (arith, half)

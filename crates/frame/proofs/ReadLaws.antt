@@ -35,7 +35,7 @@ use Rattle.frame.specs.FrameLaws.{bytes-of-nodes, line-read, unended-las
 use Rattle.frame.specs.Answers.{readOutcome}
 use Rattle.frame.specs.Contracts.{readLine, Ends, Decodes, Reads}
 use Rattle.width.specs.Checked.{checked, withWords}
-use Rattle.width.specs.CheckedLaws.{Tree, checked-tree}
+use Rattle.width.specs.CheckedLaws.{Tree, checked-tree, too-little, enough}
 use Rattle.frame.specs.declared.Line.{Line}
 use Rattle.frame.specs.declared.FrameRead.{FrameRead}
 use Rattle.frame.specs.declared.FrameRead.the-variants as read
@@ -168,27 +168,24 @@ module _ (w : ℕ) (ws : List ℕ) (x : Counted) (h : countedOutcome x ≡ mappe
     found : Tree w ws n
     found = checked-tree w ws x h n e
 
-    roomed : framed (length before) (w, ws) ≡ (withWords (length before) (found .tree) andThen atWidth w)
-    unfolding framed
-    roomed = ap (λ (o : Outcome Expr). o andThen withWords (length before) andThen atWidth w) (found .is)
-
     pub words-fit : Fits w64 (2 * n)
     words-fit = omega (arith, found .few)
 
     pub room-refused : length before < 2 * n → Reads (framed (length before) (w, ws)) (read.Refused OutputTooSmall) before before
-    unfolding withWords
+    unfolding framed
     room-refused l =
-        reads-refused (framed (length before) (w, ws)) OutputTooSmall before
-        (roomed ∙ rw (lt-ltb (length before) (2 * nodes (found .tree)) (omega (arith, found .count))))
+        let f : length before < 2 * nodes (found .tree) = omega (arith, found .count) in
+        reads-refused (framed (length before) (w, ws)) OutputTooSmall before (then-refused (too-little _ (length before) (found .is) f) (atWidth w))
 
     module _ (l : 2 * n ≤ length before) where
       fits : length ws ≤ length before
       fits = omega (arith, ap length (found .words), length-encode (found .tree), found .count)
 
       pub handed : (after : List ℕ) → after ≡ over (take (length before) ws) before → Reads (framed (length before) (w, ws)) (read.Frame w n) before after
-      unfolding withWords
+      unfolding framed
       handed after m =
-          let e : framed (length before) (w, ws) ≡ accepted (w, found .tree) = roomed ∙ rw (le-ltb (length before) (2 * nodes (found .tree)) (omega (arith, found .count))) in
+          let f : 2 * nodes (found .tree) ≤ length before = omega (arith, found .count) in
+          let e : framed (length before) (w, ws) ≡ accepted (w, found .tree) = then-accepted (enough _ (length before) (found .is) f) (atWidth w) in
           subst (λ (o : Outcome (ℕ × Expr)). Reads o (read.Frame w n) before after) (sym e)
           (record { answer = ap (λ (i : ℕ). accepted (w, i)) (sym (found .count)); memory = m ∙ ap (λ (vs : List ℕ). over vs before) (take-all (length before) ws fits ∙ found .words) })
 

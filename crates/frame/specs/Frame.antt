@@ -8,7 +8,7 @@ use Rattle.arith.specs.Choice.{if_then_else_}
 use Rattle.expr.specs.Refusals.{refusal}
 use Rattle.expr.specs.Outcome.{Outcome, refused, accepted, _andThen_}
 use Rattle.expr.specs.Expr.{Expr, encode, nodes}
-use Rattle.width.specs.Checked.{checked, withWords}
+use Rattle.width.specs.Checked.{checked, roomFor, withWords}
 use Rattle.hex.specs.Hex.{digits, allDigits, numberOf}
 use Rattle.hex.specs.Nodes.{nodesText, wordsOf}
 
@@ -19,8 +19,8 @@ unfoldable pub frame : ℕ → Expr → List ℕ
 frame w t = digits 2 w ++ (nodesText (nodes t) (encode t) ++ (10 ∷ []))
 
 -- 9 where so many bytes have no room for the frame
-unfoldable pub withBytes : ℕ → Expr → Outcome Expr
-withBytes room t = if ltb room (3 + 18 * nodes t) then refused (refusal 9) else accepted t
+abbrev pub withBytes : ℕ → Expr → Outcome Expr
+withBytes = roomFor (λ t. 3 + 18 * nodes t)
 
 -- `write_frame`: the tree whose frame is written, or the refusal: 1, then 2 to 7, then 9
 unfoldable pub writeFrame : List ℕ → ℕ → ℕ → Outcome Expr

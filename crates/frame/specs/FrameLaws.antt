@@ -14,7 +14,7 @@ use Rattle.arith.specs.Choice.{if_then_else_}
 use Rattle.arith.specs.ChoiceLaws.{both-true}
 use Rattle.expr.specs.Refusals.{refusal}
 use Rattle.expr.specs.Outcome.{refused, accepted, _andThen_}
-use Rattle.expr.specs.OutcomeLaws.{no-answer, same-answer, if-came, else-came, then-accepted, then-came}
+use Rattle.expr.specs.OutcomeLaws.{no-answer, same-answer, if-came, then-accepted, then-came}
 use Rattle.expr.specs.Expr.{Expr, leaf, unary, binary, encode, nodes}
 use Rattle.expr.specs.ExprLaws.{nodes-pos, length-encode}
 use Rattle.expr.specs.KindLaws.{number, operand, kind-back}
@@ -22,8 +22,8 @@ use Rattle.expr.specs.Parse.{Kind, none, one, two, kindAt, kinds, parse}
 use Rattle.expr.specs.ParseLaws.{parse-sound, parse-encode}
 use Rattle.width.specs.Width.{supported}
 use Rattle.width.specs.WidthLaws.{supported-is}
-use Rattle.width.specs.Checked.{checked, withWords}
-use Rattle.width.specs.CheckedLaws.{checked-is}
+use Rattle.width.specs.Checked.{checked, roomFor, withWords}
+use Rattle.width.specs.CheckedLaws.{admitted-sound}
 use Rattle.hex.specs.Hex.{digits, allDigits, numberOf}
 use Rattle.hex.specs.HexLaws.{all-append, all-take, all-drop, all-digits, length-digits, number-digits, digits-number}
 use Rattle.hex.specs.Nodes.{nodesText, wordsOf}
@@ -111,15 +111,12 @@ unended-last (c ∷ d ∷ bs) b = ap (λ (l : List ℕ). c ∷ l) (unended-last 
 -- ---- what is accepted
 
 framed-is : (room w : ℕ) (ws : List ℕ) (v : ℕ) (t : Expr) → framed room (w, ws) ≡ accepted (v, t) → (w ≡ v) × (ws ≡ encode t)
-unfolding framed withWords
+unfolding framed
 framed-is room w ws v t e =
     let last = then-came (λ u. accepted (w, u)) (checked w ws andThen withWords room) e in
-    let read = then-came (withWords room) (checked w ws) (last .was) in
-    let passed = checked-is w ws (read .answer) (read .was) in
-    let room-is = else-came (accepted (read .answer)) (refusal 9) (ltb room (2 * nodes (read .answer))) (read .made) in
     let same = same-answer (last .made) in
-    let tree : read .answer ≡ t = same-answer (room-is .1) ∙ ap (λ q. q .1) same in
-    (ap (λ q. q .0) same, parse-sound ws t (passed .1 ∙ ap accepted tree) .words)
+    let a = admitted-sound _ ws w room (last .answer) (last .was) in
+    (ap (λ q. q .0) same, a .exact .words ∙ ap (λ q. encode (q .1)) same)
 
 -- an accepted line is its width and its tree's words
 frame-lined : (line : List ℕ) (room w : ℕ) (t : Expr) → readFrame line room ≡ accepted (w, t) → Lined (unended line) w (encode t)
@@ -180,7 +177,7 @@ tree-words (binary k l r) h =
 -- are accepted and have 64 bits, and each room that holds its words.
 pub read-back : (w : ℕ) (ws : List ℕ) (t : Expr) (room : ℕ) → supported w ≡ true → parse ws ≡ accepted t → ((i : ℕ) → i < length ws → getD ws i 0 < 2 ^ 64) → 2 * nodes t ≤ room
     → readFrame (frame w t) room ≡ accepted (w, t)
-unfolding frame readFrame framed checked withWords
+unfolding frame readFrame framed checked roomFor
 read-back w ws t room ok e each fits =
     let a = parse-sound ws t e in
     let valid = a .valid in

@@ -7,13 +7,13 @@ use native.Mathlib.Omega.{arith}
 use lib.Dec.{ltb}
 use lib.ListN.{length, take, drop, replicate, length-append, length-take, length-drop}
 use lib.Seq.{take-at}
-use borrow.Author.Tests.{le-ltb, ltb-false}
 use borrow.Rule.Slice.PartMut.{putMid}
 use Rattle.arith.specs.Choice.{if_then_else_}
 use Rattle.expr.specs.declared.refusal.Reason.{Reason}
 use Rattle.expr.specs.declared.refusal.Refusal.{Refusal}
 use Rattle.expr.specs.Refusals.{refusal, reasonOf}
 use Rattle.expr.specs.Outcome.{Outcome, refused, accepted, mapped, _andThen_}
+use Rattle.expr.specs.OutcomeLaws.{no-answer}
 use Rattle.expr.specs.Expr.{Expr, encode, nodes}
 use Rattle.expr.specs.ExprLaws.{length-encode}
 use Rattle.expr.specs.ParseLaws.{parse-sound}
@@ -21,6 +21,8 @@ use Rattle.expr.specs.Parse.{Accepts}
 use Rattle.expr.specs.Parts.{part}
 use Rattle.expr.specs.Front.{Exactly, treeAt}
 use Rattle.expr.specs.PartLaws.{exact-tree, exact-whole}
+use Rattle.width.specs.Checked.{roomFor}
+use Rattle.width.specs.CheckedLaws.{enough, roomy}
 use Rattle.value.specs.Value.{oneWidth}
 use Rattle.value.specs.ValueLaws.{one-width-sound}
 use Rattle.rewriting.specs.Measures.{D}
@@ -38,27 +40,19 @@ use Rattle.report_lines.specs.Contracts.{doneBy, Reaches, Ran}
 
 -- with more room a tree that was accepted is accepted, and a refusal other than 9 stays
 more-room : (ws : List ℕ) (w : ℕ) (widths : List ℕ) (a b : ℕ) (t : Expr) → a ≤ b → chainAdmitted ws w widths a ≡ accepted t → chainAdmitted ws w widths b ≡ accepted t
-unfolding chainAdmitted withWork
-more-room ws w widths a b t h e = go (oneWidth ws w widths) e
-  where
-    wide : (u : Expr) (c : Bool) → ltb a (2 * (nodes u + D u)) ≡ c → (if c then refused (refusal 9) else accepted u) ≡ accepted t
-        → (if ltb b (2 * (nodes u + D u)) then refused (refusal 9) else accepted u) ≡ accepted t
-    wide u true f g = absurd (let z : _≡_ {A = ℕ} 0 1 = cc in omega arith)
-    wide u false f g =
-        let m : 2 * (nodes u + D u) ≤ a = ltb-false a (2 * (nodes u + D u)) f in
-        ap (λ (c : Bool). if c then refused (refusal 9) else accepted u) (le-ltb b (2 * (nodes u + D u)) (omega arith)) ∙ g
-
-    go : (o : Outcome Expr) → (o andThen withWork a) ≡ accepted t → (o andThen withWork b) ≡ accepted t
-    go (refused r) g = absurd (let z : _≡_ {A = ℕ} 0 1 = cc in omega arith)
-    go (accepted u) g = wide u (ltb a (2 * (nodes u + D u))) refl g
+unfolding chainAdmitted
+more-room ws w widths a b t h e =
+    let k = roomy (λ u. 2 * (nodes u + D u)) a (oneWidth ws w widths) e in
+    let l : 2 * (nodes t + D t) ≤ b = omega (arith, k .1) in
+    enough _ b (k .0) l
 
 other-refusal : (ws : List ℕ) (w : ℕ) (widths : List ℕ) (a b : ℕ) (r : Reason) → (r .number ≡ 9 → ⊥) → chainAdmitted ws w widths a ≡ refused r → chainAdmitted ws w widths b ≡ refused r
-unfolding chainAdmitted withWork
+unfolding chainAdmitted roomFor
 other-refusal ws w widths a b r n e = go (oneWidth ws w widths) e
   where
     not-nine : (u : Expr) (c : Bool) → (if c then refused (refusal 9) else accepted u) ≡ refused r → ⊥
     not-nine u true g = n (let e : r .number ≡ 9 = cc in e)
-    not-nine u false g = let z : _≡_ {A = ℕ} 0 1 = cc in omega arith
+    not-nine u false g = no-answer (sym g)
 
     go : (o : Outcome Expr) → (o andThen withWork a) ≡ refused r → (o andThen withWork b) ≡ refused r
     go (refused q) g = g
@@ -113,16 +107,8 @@ module _ (ws : List ℕ) (w : ℕ) (t : Expr) (after rest work : List ℕ) (n k 
 
 -- a tree that the chain takes is of one width
 pub admitted-tree : (ws : List ℕ) (w : ℕ) (widths : List ℕ) (a : ℕ) (t : Expr) → chainAdmitted ws w widths a ≡ accepted t → oneWidth ws w widths ≡ accepted t
-unfolding chainAdmitted withWork
-admitted-tree ws w widths a t e = go (oneWidth ws w widths) e
-  where
-    same : (u : Expr) (c : Bool) → (if c then refused (refusal 9) else accepted u) ≡ accepted t → accepted u ≡ accepted t
-    same u true g = absurd (let z : _≡_ {A = ℕ} 0 1 = cc in omega arith)
-    same u false g = g
-
-    go : (o : Outcome Expr) → (o andThen withWork a) ≡ accepted t → o ≡ accepted t
-    go (refused r) g = absurd (let z : _≡_ {A = ℕ} 0 1 = cc in omega arith)
-    go (accepted u) g = same u (ltb a (2 * (nodes u + D u))) g
+unfolding chainAdmitted
+admitted-tree ws w widths a t e = roomy (λ u. 2 * (nodes u + D u)) a (oneWidth ws w widths) e .0
 
 module _ (ws : List ℕ) (w e : ℕ) (work after : List ℕ) (x : ChainAnswer) (g : ChainGives (chainAdmitted ws w [] (length (part 0 e work))) w [] (part 0 e work) after (chainOutcome x)) where
   abbrev back : List ℕ

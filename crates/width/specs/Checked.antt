@@ -1,4 +1,4 @@
--- Words that are a tree at a supported width, and room for a tree's words: what calls check before they answer. Definitions only.
+-- Words that are a tree at a supported width, and room for what is written of a tree: what calls check before they answer. Definitions only.
 use mathlib.Core.List.{List}
 use Prim.Native.Nat.{ℕ, _*_}
 use lib.Dec.{ltb}
@@ -13,6 +13,10 @@ use Rattle.width.specs.Width.{supported}
 unfoldable pub checked : ℕ → List ℕ → Outcome Expr
 checked w ws = if supported w then parse ws else refused (refusal 1)
 
+-- 9 where so many places are fewer than the tree needs
+unfoldable pub roomFor : (Expr → ℕ) → ℕ → Expr → Outcome Expr
+roomFor need room t = if ltb room (need t) then refused (refusal 9) else accepted t
+
 -- 9 where so many words have no room for the tree's
-unfoldable pub withWords : ℕ → Expr → Outcome Expr
-withWords room t = if ltb room (2 * nodes t) then refused (refusal 9) else accepted t
+abbrev pub withWords : ℕ → Expr → Outcome Expr
+withWords = roomFor (λ t. 2 * nodes t)
