@@ -1,4 +1,6 @@
 // Modular arithmetic on u64 at a width in bits, after arith.rs. Every function answers for every argument.
+#![tactic(auto)]
+
 ghost use Rattle.std.specs.Prelude.{◌≡◌, ◌*◌, ◌%◌, ◌^◌};
 ghost use Rattle.arith.specs.Arith.{bitmask_of, sign_bit_mask_of, mod_add, mod_sub, mod_mul, mod_neg, mod_not, mod_shr, low_bits, sign_extended};
 

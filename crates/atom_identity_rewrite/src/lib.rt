@@ -1,5 +1,7 @@
 // The candidates of a tree's root by their number, after atom_identity_rewrite.rs: `try_match_all` and what is below it. A candidate, in document
 // 01's terms a tree that a matcher offers in place of the node, is decided first, with nothing written, and then turned into words.
+#![tactic(auto)]
+
 ghost use Rattle.std.specs.Prelude.{◌≡◌, ◌*◌, ◌≤◌, length};
 ghost use Rattle.expr.specs.Outcome.{mapped, ◌and_then◌};
 ghost use Rattle.expr.specs.Expr.{nodes};

@@ -1,6 +1,8 @@
 // The local rewrite of a tree and its first site, after atom_simplifier.rs. A rewrite is decided first, with nothing written, and the
 // decision is then turned into words. In document 01's terms a site is a node that has a local rewrite; the first site is the one that is met
 // first where each node is visited after its children, the left child before the right one.
+#![tactic(auto)]
+
 ghost use Rattle.std.specs.Prelude.{◌≡◌, ◌≤◌, length};
 ghost use Rattle.expr.specs.Outcome.{mapped};
 ghost use Rattle.expr.specs.Expr.{encode, nodes};

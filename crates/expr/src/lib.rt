@@ -1,5 +1,7 @@
 // Trees as words, after expr.rs and expr_utils.rs. A node is a kind word and an operand word; the words of its children follow, from
 // left to right. A child is passed on as the part of the caller's slice where its words begin.
+#![tactic(auto)]
+
 ghost use Rattle.std.specs.Prelude.{◌≡◌, min, length, take};
 ghost use Rattle.expr.specs.Expr.{Expr, encode, nodes};
 ghost use Rattle.expr.specs.ExprUtils.{has_var_dep_of, is_constant_subtree};

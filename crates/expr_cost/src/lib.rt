@@ -1,4 +1,6 @@
 // The cost of a tree, after expr_cost.rs.
+#![tactic(auto)]
+
 ghost use Rattle.std.specs.Prelude.{◌≡◌, ◌≤◌, max, length};
 ghost use Rattle.expr.specs.Expr.{Leaf, Unary, Binary, Expr, leaf, unary, binary, leaf_number, binary_number};
 ghost use Rattle.expr.specs.ExprUtils.{has_var_dep_of};

@@ -1,5 +1,7 @@
 // Lines of any length out of chunks of any size. The bytes of a line that goes on in the next chunk are kept in a lent buffer; of a longer line
 // only as many as the buffer has places, so that a line without an end costs no memory.
+#![tactic(auto)]
+
 ghost use Rattle.std.specs.Prelude.{◌≡◌, min, length, take};
 ghost use Rattle.expr.specs.Lent.{over};
 ghost use Rattle.lines.specs.Lines.{up_to, has_end, used_of, kept};

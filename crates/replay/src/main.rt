@@ -1,6 +1,8 @@
 // Answers the requests on standard input, one a line (oracle/README.md has their grammar): writes the line, ` = ` and the
 // answer. The line is written too so that a change to either stored list shows. A line that is no request gets `?`, which no
 // stored answer is.
+#![tactic(auto)]
+
 use requests::output::flush;
 use requests::text::find;
 

@@ -1,5 +1,7 @@
 // The report of standard input, on standard output. What is printed comes from `report_lines`. What is read and written cannot be said in a
 // contract; that the state is the one after the bytes read so far can.
+#![tactic(auto)]
+
 ghost use Rattle.std.specs.Prelude.{◌-◌, ◌≤◌, ◌≡◌, length, take};
 ghost use Rattle.report.specs.Reading.{Ready, ReadsFront, ReadsChunk, ReadsSome};
 

@@ -1,5 +1,7 @@
 // Everything that the report prints, as functions on slices. The input comes in chunks of any size; between two of them a state holds the sums
 // over the lines so far and how many bytes of the next line are kept.
+#![tactic(auto)]
+
 ghost use Rattle.std.specs.Prelude.{◌≡◌, true, ◌+◌, ◌≤◌, ◌<◌, ◌^◌, length};
 ghost use Rattle.expr.specs.Parts.{Laid};
 ghost use Rattle.report_lines.specs.Report.{outcome_of};

@@ -1,5 +1,7 @@
 // What the test programs share: requests as text, text to standard output, and the places that a call is lent. Nothing here is asked of a
 // caller, so that a program proves no more than its own places.
+#![tactic(auto)]
+
 ghost use Rattle.std.specs.Prelude.{◌≡◌, length};
 
 pub mod lent;

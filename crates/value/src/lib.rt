@@ -1,5 +1,7 @@
 // The value of a tree of one width at a setting. In document 01's terms a tree is of one width if a call with that width and that width list
 // gives it none of the refusals 1 to 8; a setting is a list that has a word for each variable, by its number.
+#![tactic(auto)]
+
 ghost use Rattle.std.specs.Prelude.{◌≡◌, List, ℕ, ◌≤◌, ◌<◌, ◌^◌};
 ghost use Rattle.expr.specs.Expr.{Leaf, Unary, Binary, Expr, leaf, unary, binary, nodes, leaf_number, leaf_operand, unary_number, unary_operand, binary_number};
 ghost use Rattle.expr.specs.Outcome.{mapped, ◌and_then◌};

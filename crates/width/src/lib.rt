@@ -1,5 +1,7 @@
 // The widths of a tree's nodes, after width.rs. `var_widths` is document 01's width list: the widths of the variables by their number; a
 // variable past its end has the default width.
+#![tactic(auto)]
+
 ghost use Rattle.std.specs.Prelude.{◌≡◌, ◌&&◌, List, ℕ, get_or};
 ghost use Rattle.expr.specs.Expr.{Leaf, Unary, Binary, Concat, Expr, leaf, unary, binary, leaf_number, leaf_operand, unary_number, unary_operand, binary_number, nodes};
 ghost use Rattle.expr.specs.Outcome.{accepted, mapped, ◌and_then◌};

@@ -1,0 +1,11 @@
+-- `expr::copy_words` meets its contract. The measure is what is left to copy. Assumes nothing.
+use Prim.Native.Nat.{◌-◌}
+use borrow.Author.Rules.{rules}
+use Rattle.expr.proofs.CopyLaws.{Copying, copying}
+use Rattle.expr.proofs.copy_words.Given as goal
+
+abbrev pub invariant-loop-at : goal.invariant-loop-at
+invariant-loop-at l = Copying l.words l.initial.out l.out l.n l.i
+
+abbrev pub decreases-loop-at : goal.decreases-loop-at
+decreases-loop-at l = l.n - l.i

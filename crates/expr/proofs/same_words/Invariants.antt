@@ -1,0 +1,12 @@
+-- `expr::same_words` meets its contract. The measure is what is left of the words. Assumes nothing.
+use Prim.Native.Nat.{◌-◌}
+use lib.ListN.{length}
+use borrow.Author.Rules.{rules}
+use Rattle.expr.proofs.SameLaws.{Same, lengths_differ, same_first, same_end, words_differ, same_on}
+use Rattle.expr.proofs.same_words.Given as goal
+
+abbrev pub invariant-loop-i : goal.invariant-loop-i
+invariant-loop-i l = Same l.a l.b l.i
+
+abbrev pub decreases-loop-i : goal.decreases-loop-i
+decreases-loop-i l = length l.a - l.i
