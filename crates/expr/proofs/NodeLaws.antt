@@ -23,11 +23,11 @@ use Rattle.expr.specs.Answers.{arity_outcome}
 use Rattle.expr.specs.contracts.Arity.{the_type}
 
 -- an arity that is no refusal is a number
-accepts : (a : Arity) → OneOf (0 ∷ 1 ∷ 2 ∷ []) (tag_of the_type a) → (n : ℕ) × (accepted n ≡ arity_outcome a)
+accepts : (a : Arity) → ((r : Refusal) → a ≡ Refused r → ⊥) → (n : ℕ) × (accepted n ≡ arity_outcome a)
 accepts Zero z = (0, refl)
 accepts One z = (1, refl)
 accepts Two z = (2, refl)
-accepts (Refused r) z = absurd (⊎_elim (λ y. omega arith) (⊎_elim (λ y. omega arith) (λ y. omega arith)) z)
+accepts (Refused r) z = absurd (z r refl)
 
 -- what the operand and the depth make of a known kind
 limited : (levels k o : ℕ) {κ : Kind} → kind_at k (kinds o) ≡ accepted κ
@@ -47,7 +47,7 @@ module _ (levels k o : ℕ) (a : Arity) (e : arity_outcome a ≡ arity_of k) whe
       go (refused q) f h = h
       go (accepted κ) f h = absurd (let z : ◌≡◌ {A = ℕ} 0 1 = cc in omega arith)
 
-  module _ (z : OneOf (0 ∷ 1 ∷ 2 ∷ []) (tag_of the_type a)) (b : Bool) (f : b ≡ operand_ok k o) where
+  module _ (z : (r : Refusal) → a ≡ Refused r → ⊥) (b : Bool) (f : b ≡ operand_ok k o) where
     kind : Made arity (kind_at k (kinds o)) (accepts a z).0
     kind = mapped_made arity (kind_at k (kinds o)) ((accepts a z).1 ∙ e ∙ arity_is o k)
 

@@ -9,10 +9,10 @@ pub returns-in-Refused : goal.returns-in-Refused
 returns-in-Refused c = search laws
 
 pub returns-then-not-operand_ok : goal.returns-then-not-operand_ok
-returns-then-not-operand_ok c = search laws
+returns-then-not-operand_ok c = search (laws, c.in_default.not-Refused)
 
 pub returns-then-levels-eq0 : goal.returns-then-levels-eq0
-returns-then-levels-eq0 c = search laws
+returns-then-levels-eq0 c = search (laws, c.in_default.not-Refused)
 
 pub returns : goal.returns
-returns c = search laws
+returns c = search (laws, c.in_default.not-Refused)
