@@ -31,8 +31,8 @@ claims t = (arity_of_lem.Asked, arity_of_lem.Learnt, leaf-cost.Asked, leaf-cost.
 
 ruleset laws = (rules, walk, tail_short, small_cost, leaf_case, unary_case, binary_gives)
 
-pub +cost-at-spec : {M : Type 1} → statement M
-+cost-at-spec = close μ λ t. lts.spec (claims t) (at t) fn.Post
+pub +cost_at_spec : {M : Type 1} → statement M
++cost_at_spec = close μ λ t. lts.spec (claims t) (at t) fn.Post
     (λ c. search laws)
     (λ c. search laws)
     (λ c. search laws)

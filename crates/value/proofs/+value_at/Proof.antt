@@ -30,8 +30,8 @@ claims t = (arity_of_lem.Asked, arity_of_lem.Learnt, leaf-valued.Asked, leaf-val
 
 ruleset laws = (rules, walk, leaf_gives, unary_given, binary_given)
 
-pub +value-at-spec : {M : Type 1} → statement M
-+value-at-spec = close μ λ t. lts.spec (claims t) (at t) fn.Post
+pub +value_at_spec : {M : Type 1} → statement M
++value_at_spec = close μ λ t. lts.spec (claims t) (at t) fn.Post
     (λ c. search laws)
     (λ c. search laws)
     (λ c. search laws)

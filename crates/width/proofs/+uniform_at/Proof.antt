@@ -30,8 +30,8 @@ claims t = (arity_of_lem.Asked, arity_of_lem.Learnt, leaf-uniform.Asked, leaf-un
 
 ruleset laws = (rules, walk, leaf_gives, unary_uniform, binary_uniform)
 
-pub +uniform-at-spec : {M : Type 1} → statement M
-+uniform-at-spec = close μ λ t. lts.spec (claims t) (at t) fn.Post
+pub +uniform_at_spec : {M : Type 1} → statement M
++uniform_at_spec = close μ λ t. lts.spec (claims t) (at t) fn.Post
     (λ c. search laws)
     (λ c. search laws)
     (λ c. search laws)

@@ -30,8 +30,8 @@ claims t = (arity_of_lem.Asked, arity_of_lem.Learnt, leaf_widths.Asked, leaf_wid
 
 ruleset laws = (rules, walk, operand_fits, leaf_found, unary_found, binary_found)
 
-pub +widths-at-spec : {M : Type 1} → statement M
-+widths-at-spec = close μ λ t. lts.spec (claims t) (at t) fn.Post
+pub +widths_at_spec : {M : Type 1} → statement M
++widths_at_spec = close μ λ t. lts.spec (claims t) (at t) fn.Post
     (λ c. search laws)
     (λ c. search laws)
     (λ c. search laws)

@@ -80,8 +80,8 @@ ruleset right_rules = (basics, building_right)
 
 ruleset two_rules = (basics, building_two)
 
-pub +build-build-one-build-right-build-two-spec : {M : Type 1} → statement M
-+build-build-one-build-right-build-two-spec = close μ_tree μ_one μ_right μ_two
+pub +build_build_one_build_right_build_two_spec : {M : Type 1} → statement M
++build_build_one_build_right_build_two_spec = close μ_tree μ_one μ_right μ_two
     (λ t. tree-lts.spec (tree_claims t) (tree_at_lem t) tree.Post
     (λ c κs. search tree_rules)
     (λ c. search tree_rules)

@@ -30,8 +30,8 @@ pairs_at_claims t = (arity-of-reads.Asked, arity-of-reads.Learnt, pairs_at_below
 
 ruleset laws = (basics, counting, walk, binary_gives, tail_short)
 
-pub +pairs-at-spec : {M : Type 1} → statement M
-+pairs-at-spec = close μ_pairs_at
+pub +pairs_at_spec : {M : Type 1} → statement M
++pairs_at_spec = close μ_pairs_at
     (λ t. pairs-at-lts.spec (pairs_at_claims t) (pairs_at_at t) pairs-at.Post
     (λ c. search laws)
     (λ c. search laws)

@@ -98,8 +98,8 @@ ruleset operand_rules = (basics, settling_operand)
 
 ruleset second_rules = (basics, settling_second)
 
-pub +rewrite-one-settle-de-morgan-settle-one-settle-operand-settle-second-spec : {M : Type 1} → statement M
-+rewrite-one-settle-de-morgan-settle-one-settle-operand-settle-second-spec = close μ_rewrite μ_turn μ_one μ_operand μ_second
+pub +rewrite_one_settle_de_morgan_settle_one_settle_operand_settle_second_spec : {M : Type 1} → statement M
++rewrite_one_settle_de_morgan_settle_one_settle_operand_settle_second_spec = close μ_rewrite μ_turn μ_one μ_operand μ_second
     (λ t. rewrite-lts.spec (rewrite_claims t) (rewrite_at t) rewrite.Post
     (λ c. search rewrite_rules)
     (λ c. search rewrite_rules)

@@ -26,8 +26,8 @@ rewrite_two_claims t = (replace-reads.Asked, replace-reads.Learnt, binary-rewrit
 
 ruleset laws = (basics, rewriting_two)
 
-pub +rewrite-two-spec : {M : Type 1} → statement M
-+rewrite-two-spec = close μ_rewrite_two
+pub +rewrite_two_spec : {M : Type 1} → statement M
++rewrite_two_spec = close μ_rewrite_two
     (λ t. rewrite-two-lts.spec (rewrite_two_claims t) (rewrite_two_at t) rewrite-two.Post
     (λ c. search laws)
     (λ c. search laws)

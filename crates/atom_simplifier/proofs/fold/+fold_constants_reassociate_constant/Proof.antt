@@ -47,8 +47,8 @@ ruleset two_rules = (basics, folded_two)
 
 ruleset node_rules = (basics, reassociation)
 
-pub +fold-constants-reassociate-constant-spec : {M : Type 1} → statement M
-+fold-constants-reassociate-constant-spec = close μ_two μ_node
+pub +fold_constants_reassociate_constant_spec : {M : Type 1} → statement M
++fold_constants_reassociate_constant_spec = close μ_two μ_node
     (λ t. two-lts.spec (two_claims t) (two_at t) two.Post
     (λ c κs. search two_rules)
     (λ c κs. search two_rules)

@@ -65,8 +65,8 @@ ruleset right_rules = (basics, from_right)
 
 ruleset child_rules = (basics, in_child)
 
-pub +find-first-certifiable-atom-rewrite-at-find-from-right-find-in-child-spec : {M : Type 1} → statement M
-+find-first-certifiable-atom-rewrite-at-find-from-right-find-in-child-spec = close μ_tree μ_right μ_child
+pub +find_first_certifiable_atom_rewrite_at_find_from_right_find_in_child_spec : {M : Type 1} → statement M
++find_first_certifiable_atom_rewrite_at_find_from_right_find_in_child_spec = close μ_tree μ_right μ_child
     (λ t. tree-lts.spec (tree_claims t) (tree_at_lem t) tree.Post
     (λ c. search tree_rules)
     (λ c κs. search tree_rules)
