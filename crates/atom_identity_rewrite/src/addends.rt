@@ -9,7 +9,7 @@ use crate::reading::Reading;
 use expr::{Counted, kind};
 
 // A subtree of the lent words that is added or, where `negated`, subtracted.
-#[derive(Drop)]
+#[derive(Clone, Copy)]
 pub(crate) struct Addend {
     pub start: usize,
     pub len: usize,
@@ -17,7 +17,7 @@ pub(crate) struct Addend {
 }
 
 // The first `count` of the list.
-#[derive(Drop)]
+#[derive(Clone, Copy)]
 pub(crate) struct Addends {
     pub list: [Addend; 256],
     pub count: usize,

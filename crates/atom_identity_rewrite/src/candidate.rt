@@ -5,7 +5,7 @@ ghost use Rattle.atom_identity_rewrite.specs.Promises.{Offers, asked};
 use crate::parts::Part;
 
 // And or Xor, by its number, of two subtrees; where `negate`, of the first and a Not over the second.
-#[derive(Drop)]
+#[derive(Clone, Copy)]
 pub(crate) struct Candidate {
     pub kind: u64,
     pub first: Part,
@@ -14,14 +14,14 @@ pub(crate) struct Candidate {
 }
 
 // What a matcher answers.
-#[derive(Drop)]
+#[derive(Clone, Copy)]
 pub(crate) enum Match {
     None,
     Some(Candidate),
 }
 
 // The candidate that is asked for, where it was `found`, with its tag; else how many are `left` to pass over before it.
-#[derive(Drop)]
+#[derive(Clone, Copy)]
 pub(crate) struct Offer {
     pub left: usize,
     pub found: bool,

@@ -28,7 +28,7 @@ use expr::{Counted, kind};
 use parts::Part;
 
 // A candidate's tag and nodes, how many candidates there are where the number is past the last, or a refusal.
-#[derive(Drop)]
+#[derive(Clone, Copy)]
 pub enum CandidateAnswer {
     Candidate(u64, usize),
     NoMore(usize),

@@ -15,14 +15,14 @@ use crate::{addends, candidate, parts, reading};
 use expr::kind;
 
 // Two subtrees, if they are there.
-#[derive(Drop)]
+#[derive(Clone, Copy)]
 pub(crate) enum Sides {
     None,
     Both(Part, Part),
 }
 
 // Which of two subtrees is meant.
-#[derive(Drop)]
+#[derive(Clone, Copy)]
 pub(crate) enum Picked {
     None,
     Lhs,

@@ -12,14 +12,14 @@ ghost use Rattle.atom_identity_rewrite.specs.Promises.{Standing, part_tree, AreO
 use expr::{Counted, kind};
 
 // A subtree: where its words start in the lent words, and how many they are.
-#[derive(Drop)]
+#[derive(Clone, Copy)]
 pub(crate) struct Part {
     pub start: usize,
     pub len: usize,
 }
 
 // The operands of a node over two.
-#[derive(Drop)]
+#[derive(Clone, Copy)]
 pub(crate) struct Operands {
     pub left: Part,
     pub right: Part,
@@ -113,7 +113,7 @@ fn is_constant_node(words: &[u64], part: Part) -> bool
 }
 
 // A subtree, if it is there.
-#[derive(Drop)]
+#[derive(Clone, Copy)]
 pub(crate) struct Role {
     pub has: bool,
     pub part: Part,

@@ -9,7 +9,7 @@ use crate::parts::{Part, Role};
 use crate::{matchers, parts};
 
 // The roles of addends in tags 4 and 5: the constant, the Or, and of the others the last that is added and the last that is subtracted.
-#[derive(Drop)]
+#[derive(Clone, Copy)]
 pub(crate) struct Roles {
     pub unit: bool,
     pub or: Role,
@@ -20,7 +20,7 @@ pub(crate) struct Roles {
 }
 
 // The tag and the width that the addends are read for. Tags 4 and 5 keep the roles, tags 6 and 7 the candidate that is asked for.
-#[derive(Drop)]
+#[derive(Clone, Copy)]
 pub(crate) struct Reading {
     pub tag: u64,
     pub width: u32,

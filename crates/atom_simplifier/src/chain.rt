@@ -20,35 +20,35 @@ use expr::refusal::Refusal;
 use expr::{Arity, Counted, kind};
 
 // The nodes of the end tree and the number of rewrites, or a refusal.
-#[derive(Drop)]
+#[derive(Clone, Copy)]
 pub enum ChainAnswer {
     End(usize, usize),
     Refused(Refusal),
 }
 
 // And and Or nodes of a tree, and its pairs of one of them and a Not above it, which is document 01's D.
-#[derive(Drop)]
+#[derive(Clone, Copy)]
 pub(crate) struct Pairs {
     and_ors: usize,
     pairs: usize,
 }
 
 // The same for the tree at the front of words, with the number of its words.
-#[derive(Drop)]
+#[derive(Clone, Copy)]
 pub(crate) struct PairsRead {
     words: usize,
     found: Pairs,
 }
 
 // How many words the tree has that a node has come to, and how many rewrites it took.
-#[derive(Drop)]
+#[derive(Clone, Copy)]
 pub(crate) struct Settled {
     len: usize,
     count: usize,
 }
 
 // The same for a tree of the input, with the number of its words that were read.
-#[derive(Drop)]
+#[derive(Clone, Copy)]
 pub(crate) struct Built {
     read: usize,
     len: usize,

@@ -13,7 +13,7 @@ use crate::local::Decision;
 use expr::{Counted, kind};
 
 // What `constant_val` answers: the word of a Constant, or none.
-#[derive(Drop)]
+#[derive(Clone, Copy)]
 pub(crate) enum ConstantVal {
     Word(u64),
     None,
@@ -108,7 +108,7 @@ fn contains_operand(whole: &[u64], op: u64, part: &[u64], width: u32) -> bool
 }
 
 // What the arms of the fold make of two operands: one of them, a constant, or the node itself.
-#[derive(Drop)]
+#[derive(Clone, Copy)]
 pub(crate) enum Arm {
     Left,
     Right,

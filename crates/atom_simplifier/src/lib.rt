@@ -24,7 +24,7 @@ use local::Decision;
 use search::{Search, Site};
 
 // The nodes of the replacement, none, or a refusal.
-#[derive(Drop)]
+#[derive(Clone, Copy)]
 pub enum RewriteAnswer {
     Rewritten(usize),
     None,
@@ -32,7 +32,7 @@ pub enum RewriteAnswer {
 }
 
 // The bytes of the path and the nodes of the replacement, none, or a refusal.
-#[derive(Drop)]
+#[derive(Clone, Copy)]
 pub enum SiteAnswer {
     Site(usize, usize),
     None,

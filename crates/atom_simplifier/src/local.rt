@@ -11,7 +11,7 @@ use crate::fold;
 use expr::{Arity, kind};
 
 // A decision. Places and lengths count the words of the node that it is about.
-#[derive(Drop)]
+#[derive(Clone, Copy)]
 pub(crate) enum Decision {
     // The node stays.
     Nothing,

@@ -15,7 +15,7 @@ use crate::local::Decision;
 use expr::Arity;
 
 // A site: where its words begin, how many there are, how many levels it is below the tree's root, and what it becomes.
-#[derive(Drop)]
+#[derive(Clone, Copy)]
 pub(crate) struct Site {
     pub(crate) at: usize,
     pub(crate) words: usize,
@@ -24,7 +24,7 @@ pub(crate) struct Site {
 }
 
 // The first site, or none and the number of the tree's words.
-#[derive(Drop)]
+#[derive(Clone, Copy)]
 pub(crate) enum Search {
     None(usize),
     Found(Site),

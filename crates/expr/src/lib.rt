@@ -18,7 +18,7 @@ pub mod refusal;
 use refusal::Refusal;
 
 // How many children a node has, or why it is refused.
-#[derive(Drop)]
+#[derive(Clone, Copy)]
 pub enum Arity {
     Zero,
     One,
@@ -27,14 +27,14 @@ pub enum Arity {
 }
 
 // A number of nodes or of words, or a refusal.
-#[derive(Drop)]
+#[derive(Clone, Copy)]
 pub enum Counted {
     Count(usize),
     Refused(Refusal),
 }
 
 // A yes or no about a tree, or a refusal.
-#[derive(Drop)]
+#[derive(Clone, Copy)]
 pub enum Verdict {
     Known(bool),
     Refused(Refusal),

@@ -3,7 +3,7 @@
 ghost use Rattle.std.specs.Prelude.{◌≡◌};
 ghost use Rattle.expr.specs.Refusals.{reason_of};
 
-#[derive(Drop)]
+#[derive(Clone, Copy)]
 pub enum Refusal {
     // 1: the call's width is not one of 1 to 64.
     WidthOutOfRange,
@@ -39,7 +39,7 @@ pub enum Refusal {
 }
 
 // A refusal as document 01 tells it: its number and the two values that it carries.
-#[derive(Drop)]
+#[derive(Clone, Copy)]
 pub struct Reason {
     pub number: u32,
     pub first: u32,

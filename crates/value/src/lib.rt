@@ -14,7 +14,7 @@ ghost use Rattle.value.specs.Promises.{valued};
 use expr::refusal::Refusal;
 use expr::{Arity, Counted, Verdict, kind};
 
-#[derive(Drop)]
+#[derive(Clone, Copy)]
 pub enum ValueAnswer {
     Value(u64),
     Refused(Refusal),

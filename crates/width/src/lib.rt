@@ -16,14 +16,14 @@ ghost use Rattle.width.specs.Promises.{First, FirstOfThree, OwnWidthFirst, Width
 use expr::refusal::Refusal;
 use expr::{Arity, Counted, Verdict, kind};
 
-#[derive(Drop)]
+#[derive(Clone, Copy)]
 pub enum WidthAnswer {
     Width(u32),
     Refused(Refusal),
 }
 
 // Whether the widths of a tree are consistent.
-#[derive(Drop)]
+#[derive(Clone, Copy)]
 pub enum Validity {
     Valid,
     Refused(Refusal),
