@@ -139,7 +139,7 @@ pub +build_build_one_build_right_build_two_spec : {M : Type 1} → statement M
     (λ c. search two_rules)
     (λ c. search two_rules)
     (λ c. search two_rules)
-    (λ c κs. let m = c.before.before.before.before.before.before in let p = m.before.before.before.before.before.requires.1 in (search two_rules, (search (right_begins), search two_rules, search two_rules, has_left _ _ p.0 p.1 _ p.4 p.5 _ _ _ _ m.build.ensures, search (right_room), search (right_short))))
+    (λ c κs. let m = c.before.before.before.before.before.before in let p = m.before.before.before.before.before.requires.1 in (search two_rules, (search (right_begins), search two_rules, search two_rules, has_left _ _ p.0 p.1 _ p.4 p.5 _ _ _ _ m.build-left.ensures, search (right_room), search (right_short))))
     (λ c. search two_rules)
     (λ c. search two_rules)
     (λ c. search two_rules)

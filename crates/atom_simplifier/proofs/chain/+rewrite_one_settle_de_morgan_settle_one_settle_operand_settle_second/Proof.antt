@@ -118,7 +118,7 @@ pub +rewrite_one_settle_de_morgan_settle_one_settle_operand_settle_second_spec :
     (λ c. search turn_rules)
     (λ c κs. search turn_rules)
     (λ c. search turn_rules)
-    (λ c κs. let m = c.before.before.before.before in let k = m.before.before.before.before in (search turn_rules, (half_turned _ _ k.turn-kind.ensures _ _ _ k.before.before.before.requires.1.0 _ _ _ m.settle-operand.ensures, search turn_rules)))
+    (λ c κs. let m = c.before.before.before.before in let k = m.before.before.before.before in (search turn_rules, (half_turned _ _ k.turn_kind.ensures _ _ _ k.before.before.before.requires.1.0 _ _ _ m.settle_operand-first.ensures, search turn_rules)))
     (λ c. search turn_rules)
     (λ c. search turn_rules)
     (λ c. search turn_rules)

@@ -1,0 +1,13 @@
+-- `atom_simplifier::chain::clear` meets its contract. The measure is the words that are left. Assumes nothing.
+use Prim.Native.Nat.{◌-◌}
+use lib.ListN.{length, replicate}
+use Rattle.arith.specs.NeedLaws.{basics}
+use Rattle.atom_simplifier.proofs.InPlaceLaws.{clearing}
+use Rattle.atom_simplifier.proofs.WriteLaws.{Copied, copied_long}
+use Rattle.atom_simplifier.proofs.chain.clear.Given as goal
+
+abbrev pub invariant-loop-i : goal.invariant-loop-i
+invariant-loop-i l = Copied (replicate (length l.initial.work) 0) l.initial.work l.work l.i
+
+abbrev pub decreases-loop-i : goal.decreases-loop-i
+decreases-loop-i l = length l.initial.work - l.i
