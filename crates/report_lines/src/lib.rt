@@ -21,7 +21,7 @@ pub const LINE_BYTES: usize = 9219;
 pub const TEXT_BYTES: usize = 9400;
 
 // The sums over lines, for the closing line: their number, how many were refused, and the nodes before and after over the others.
-#[derive(Drop)]
+#[derive(Clone, Copy)]
 pub struct Totals {
     pub lines: u64,
     pub refused: u64,
@@ -30,14 +30,14 @@ pub struct Totals {
 }
 
 // What is known between two chunks.
-#[derive(Drop)]
+#[derive(Clone, Copy)]
 pub struct State {
     pub totals: Totals,
     pub have: usize,
 }
 
 // How many bytes of the chunk were read, how many were put into the output, and the state then.
-#[derive(Drop)]
+#[derive(Clone, Copy)]
 pub struct Step {
     pub used: usize,
     pub put: usize,

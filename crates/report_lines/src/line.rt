@@ -16,7 +16,7 @@ use atom_simplifier::chain::ChainAnswer;
 use expr::kind;
 
 // How many bytes were put into the output, and the sums with the line.
-#[derive(Drop)]
+#[derive(Clone, Copy)]
 pub(crate) struct Line {
     pub(crate) put: usize,
     pub(crate) totals: Totals,
