@@ -14,7 +14,6 @@ pub mod MeasureLaws
 pub mod KeptLaws
 pub mod MatchLaws
 pub mod IdentityLaws
-pub mod CandidateLaws
 pub mod EndLaws
 pub mod NodesLaws
 pub mod ChainLaws

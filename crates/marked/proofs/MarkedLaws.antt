@@ -79,6 +79,7 @@ same_outcome_lem (accepted xs) (accepted ys) h = ap accepted (same_lists_lem xs 
 -- what every element passes, each one passes
 each_one : {A : Type 0} (f : A → Bool) (xs : List A) → T (every f xs) → (a : A) → a isAmong xs → T (f a)
 unfolding every
+each_one f [] h a i = elim i [ ]
 each_one f (b ∷ xs) h a first = (and_yes (f b) (every f xs) h).0
 each_one f (b ∷ xs) h a (later i) = each_one f xs (and_yes (f b) (every f xs) h).1 a i
 
