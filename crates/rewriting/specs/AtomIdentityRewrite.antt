@@ -64,8 +64,8 @@ match_binary_add_with_neg node =
 
 -- `xor_absorb_one`: x and the And of x and another tree, either operand of the And being x; the left one is tested first
 unfoldable pub xor_absorb_one : Expr → Expr → Option Expr
-xor_absorb_one x andNode =
-    operands_of And andNode and_then λ (a, b).
+xor_absorb_one x and_node =
+    operands_of And and_node and_then λ (a, b).
     if expr_eq a x then some (binary And x (not b)) else
     if expr_eq b x then some (binary And x (not a)) else
     none
@@ -82,8 +82,8 @@ same_unordered_pair a b x y = (expr_eq a x && expr_eq b y) || (expr_eq a y && ex
 
 -- of an Or and an And, either of which may be the one under Neg
 unfoldable pub xor_of_or_and : Expr → Expr → Option Expr
-xor_of_or_and orSide andSide =
-    operands_of Or orSide and_then λ (a, b). operands_of And andSide and_then λ (x, y). only_if (same_unordered_pair a b x y) (binary Xor a b)
+xor_of_or_and or_side and_side =
+    operands_of Or or_side and_then λ (a, b). operands_of And and_side and_then λ (x, y). only_if (same_unordered_pair a b x y) (binary Xor a b)
 
 -- the Rust's `pick_or_and` finds the Or and the And: an Or is no And, so that at most one of the two orders gives a tree
 unfoldable pub match_xor_via_or_minus_and : Expr → Option Expr
@@ -93,8 +93,8 @@ match_xor_via_or_minus_and node = match_binary_add_with_neg node and_then λ (lh
 
 -- of an Or and a Not, either of which may be the one under Neg
 unfoldable pub and_of_or_not : Expr → Expr → Option Expr
-and_of_or_not orSide notSide =
-    operands_of Or orSide and_then λ (l, r). operand_of_not notSide and_then λ a. map (binary And a) (beside_not_of a l r)
+and_of_or_not or_side not_side =
+    operands_of Or or_side and_then λ (l, r). operand_of_not not_side and_then λ a. map (binary And a) (beside_not_of a l r)
 
 -- the Rust's `pick_kind` and `pick_other` find the Or and the Not: an Or is no Not, so that at most one of the two orders gives a tree
 unfoldable pub match_and_via_not_or_minus_not : Expr → Option Expr
