@@ -117,8 +117,7 @@ fn scan(words: &[u64], list: &[Addend], n: usize, s: Reading) -> Reading
     t
 }
 
-// What reading the addends makes of s. The list is lent to `fill` and then to `scan`; no reference to a struct stands in this contract, so that
-// the functions above it need no proof by hand.
+// What reading the addends makes of s. The list is lent to `fill` and then to `scan`.
 pub(crate) fn read_addends(words: &[u64], all: Addends, s: Reading) -> Reading
     requires { (all.count ≤ 256) × (length words.now ≤ 1024) × Addended words.now (take all.count all.list) }
     ensures { Carried words.now (take all.count all.list) s result }
