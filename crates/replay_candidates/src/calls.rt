@@ -19,8 +19,7 @@ fn candidate_times(
     atom_identity_rewrite::try_match_all(words, width, number, out)
 }
 
-pub(crate) fn put_candidate(
-    text: &mut [u8],
+pub(crate) fn put_candidate(rt: &impl Print, text: &mut [u8],
     have: usize,
     words: &[u64],
     width: u32,
@@ -31,18 +30,18 @@ pub(crate) fn put_candidate(
     lent::mark_words(out);
     match candidate_times(words, width, number, times, out) {
         CandidateAnswer::Candidate(tag, nodes) => {
-            let tagged = put_hex(text, have, tag);
-            let sized = put_field(text, tagged, nodes as u64);
-            lent::put_written(text, sized, nodes, out)
+            let tagged = put_hex(rt, text, have, tag);
+            let sized = put_field(rt, text, tagged, nodes as u64);
+            lent::put_written(rt, text, sized, nodes, out)
         }
         CandidateAnswer::NoMore(count) => {
-            let named = put(text, have, b"none");
-            let counted = put_field(text, named, count as u64);
-            lent::put_untouched(text, counted, out)
+            let named = put(rt, text, have, b"none");
+            let counted = put_field(rt, text, named, count as u64);
+            lent::put_untouched(rt, text, counted, out)
         }
         CandidateAnswer::Refused(r) => {
-            let named = put_refusal(text, have, r);
-            lent::put_untouched(text, named, out)
+            let named = put_refusal(rt, text, have, r);
+            lent::put_untouched(rt, text, named, out)
         }
     }
 }

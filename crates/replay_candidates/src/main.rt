@@ -3,42 +3,43 @@
 // stored answer is.
 #![tactic(auto)]
 
-use requests::output::{flush, put};
+use requests::input::read_full;
+use requests::output::{flush, put, write};
 use requests::text::find;
 
 mod answer;
 mod calls;
 
-fn put_line(out: &mut [u8], have: usize, line: &[u8]) -> usize {
-    let echoed = put(out, have, line);
-    let asked = put(out, echoed, b" = ");
-    let answered = answer::put_answer(out, asked, line);
-    put(out, answered, b"\n")
+fn put_line(rt: &impl Print, out: &mut [u8], have: usize, line: &[u8]) -> usize {
+    let echoed = put(rt, out, have, line);
+    let asked = put(rt, out, echoed, b" = ");
+    let answered = answer::put_answer(rt, out, asked, line);
+    put(rt, out, answered, b"\n")
 }
 
 // A last line without its end gets a line `?` alone, so that a list that is cut short or has bytes added to it does not match.
-fn replay(input: &[u8]) {
-    let mut out = io::large_buffer();
+fn replay(rt: &impl Print, input: &[u8]) {
+    let mut out = [0u8; 65536];
     let mut have = 0;
     let mut at = 0;
     let mut end = find(input, 0, b'\n');
     while end < input.len() {
-        have = put_line(&mut out, have, &input[at..end]);
+        have = put_line(rt, &mut out, have, &input[at..end]);
         at = end + 1;
         end = find(input, at, b'\n');
     }
-    flush(&out, have);
+    flush(rt, &out, have);
     if at < input.len() {
-        io::write_all(1, b"?\n");
+        write(rt, b"?\n");
     }
 }
 
-fn main() {
+fn main(rt: HostRuntime) {
     let mut input = requests::input_buffer();
-    let n = io::read_full(0, &mut input);
+    let n = read_full(&mut rt.stdin(), &mut input);
     if n == input.len() {
-        io::write_all(1, b"input too long\n");
+        write(&rt, b"input too long\n");
         return;
     }
-    replay(&input[..n]);
+    replay(&rt, &input[..n]);
 }

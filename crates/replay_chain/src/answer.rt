@@ -18,8 +18,7 @@ fn work_buffer() -> [u64; MOST_WORK]
 }
 
 // A chain that is lent so many words.
-fn chain(
-    out: &mut [u8],
+fn chain(rt: &impl Print, out: &mut [u8],
     have: usize,
     words: &[u64],
     width: u32,
@@ -29,10 +28,10 @@ fn chain(
 ) -> usize {
     let most = size as usize;
     if MOST_WORK < most {
-        return no_request(out, have);
+        return no_request(rt, out, have);
     }
     let mut work = work_buffer();
-    calls::put_chain(
+    calls::put_chain(rt, 
         out,
         have,
         words,
@@ -44,8 +43,7 @@ fn chain(
 }
 
 // The text of the numbers before the lists.
-fn of_lists(
-    out: &mut [u8],
+fn of_lists(rt: &impl Print, out: &mut [u8],
     have: usize,
     name: &[u8],
     list: &[u8],
@@ -55,54 +53,54 @@ fn of_lists(
     let mut n = [0u32; 3];
     let listed = text::u32s_in(list, &mut n);
     if !listed.good {
-        return no_request(out, have);
+        return no_request(rt, out, have);
     }
     let count = listed.count;
     if same(name, b"chain") && count == 2 {
-        return chain(out, have, words, n[0], var_widths, n[1], 1);
+        return chain(rt, out, have, words, n[0], var_widths, n[1], 1);
     }
     if same(name, b"chain_times") && count == 3 {
-        return chain(out, have, words, n[0], var_widths, n[1], n[2]);
+        return chain(rt, out, have, words, n[0], var_widths, n[1], n[2]);
     }
     // the harness measures less here; the call is the same
     if same(name, b"chain_loop_times") && count == 3 {
-        return chain(out, have, words, n[0], var_widths, n[1], n[2]);
+        return chain(rt, out, have, words, n[0], var_widths, n[1], n[2]);
     }
-    no_request(out, have)
+    no_request(rt, out, have)
 }
 
 // The text of the widths and of the tree.
-fn of_widths(out: &mut [u8], have: usize, name: &[u8], list: &[u8], lists: &[u8]) -> usize {
+fn of_widths(rt: &impl Print, out: &mut [u8], have: usize, name: &[u8], list: &[u8], lists: &[u8]) -> usize {
     let split = text::first_list(lists);
     if !split.more {
-        return no_request(out, have);
+        return no_request(rt, out, have);
     }
     let end = split.end;
     let next = split.next;
     let mut var_widths = [0u32; MOST_WORDS];
     let listed = text::u32s_in(&lists[0..end], &mut var_widths);
     if !listed.good {
-        return no_request(out, have);
+        return no_request(rt, out, have);
     }
     let mut words = [0u64; MOST_WORDS];
     let tree = text::words_in(&lists[next..], &mut words);
     if !tree.good {
-        return no_request(out, have);
+        return no_request(rt, out, have);
     }
     let n = listed.count;
     let m = tree.count;
-    of_lists(out, have, name, list, &var_widths[0..n], &words[0..m])
+    of_lists(rt, out, have, name, list, &var_widths[0..n], &words[0..m])
 }
 
-pub(crate) fn put_answer(out: &mut [u8], have: usize, line: &[u8]) -> usize {
+pub(crate) fn put_answer(rt: &impl Print, out: &mut [u8], have: usize, line: &[u8]) -> usize {
     let end = text::find(line, 0, b' ');
     let name = &line[0..end];
     let lists = &line[end..];
     let split = text::first_list(lists);
     if !split.more {
-        return no_request(out, have);
+        return no_request(rt, out, have);
     }
     let first = split.end;
     let next = split.next;
-    of_widths(out, have, name, &lists[0..first], &lists[next..])
+    of_widths(rt, out, have, name, &lists[0..first], &lists[next..])
 }

@@ -33,18 +33,17 @@ fn nonzero_word(words: &[u64], from: usize) -> usize {
 }
 
 // The end tree, and whether the words behind it are 0.
-fn put_end(text: &mut [u8], have: usize, nodes: usize, count: usize, work: &[u64]) -> usize {
+fn put_end(rt: &impl Print, text: &mut [u8], have: usize, nodes: usize, count: usize, work: &[u64]) -> usize {
     let taken = lent::words_of(nodes, work);
-    let sized = put_hex(text, have, nodes as u64);
-    let counted = put_field(text, sized, count as u64);
-    let listed = lent::put_words(text, counted, &work[0..taken]);
-    let parted = put(text, listed, b" /");
+    let sized = put_hex(rt, text, have, nodes as u64);
+    let counted = put_field(rt, text, sized, count as u64);
+    let listed = lent::put_words(rt, text, counted, &work[0..taken]);
+    let parted = put(rt, text, listed, b" /");
     let place = nonzero_word(work, taken);
-    lent::put_place(text, parted, place, work.len(), b" zero")
+    lent::put_place(rt, text, parted, place, work.len(), b" zero")
 }
 
-pub(crate) fn put_chain(
-    text: &mut [u8],
+pub(crate) fn put_chain(rt: &impl Print, text: &mut [u8],
     have: usize,
     words: &[u64],
     width: u32,
@@ -54,10 +53,10 @@ pub(crate) fn put_chain(
 ) -> usize {
     lent::mark_words(work);
     match chain_times(words, width, var_widths, times, work) {
-        ChainAnswer::End(nodes, count) => put_end(text, have, nodes, count, work),
+        ChainAnswer::End(nodes, count) => put_end(rt, text, have, nodes, count, work),
         ChainAnswer::Refused(r) => {
-            let named = put_refusal(text, have, r);
-            lent::put_untouched(text, named, work)
+            let named = put_refusal(rt, text, have, r);
+            lent::put_untouched(rt, text, named, work)
         }
     }
 }

@@ -28,8 +28,7 @@ fn site_times(
     atom_simplifier::find_first_certifiable_atom_rewrite(words, width, path, out)
 }
 
-pub(crate) fn put_local(
-    text: &mut [u8],
+pub(crate) fn put_local(rt: &impl Print, text: &mut [u8],
     have: usize,
     words: &[u64],
     width: u32,
@@ -39,22 +38,21 @@ pub(crate) fn put_local(
     lent::mark_words(out);
     match local_times(words, width, times, out) {
         RewriteAnswer::Rewritten(nodes) => {
-            let counted = put_hex(text, have, nodes as u64);
-            lent::put_written(text, counted, nodes, out)
+            let counted = put_hex(rt, text, have, nodes as u64);
+            lent::put_written(rt, text, counted, nodes, out)
         }
         RewriteAnswer::None => {
-            let named = put(text, have, b"none");
-            lent::put_untouched(text, named, out)
+            let named = put(rt, text, have, b"none");
+            lent::put_untouched(rt, text, named, out)
         }
         RewriteAnswer::Refused(r) => {
-            let named = put_refusal(text, have, r);
-            lent::put_untouched(text, named, out)
+            let named = put_refusal(rt, text, have, r);
+            lent::put_untouched(rt, text, named, out)
         }
     }
 }
 
-fn put_found(
-    text: &mut [u8],
+fn put_found(rt: &impl Print, text: &mut [u8],
     have: usize,
     length: usize,
     nodes: usize,
@@ -63,23 +61,22 @@ fn put_found(
 ) -> usize {
     let steps = lent::places_of(length, path.len());
     let taken = lent::words_of(nodes, out);
-    let counted = put_hex(text, have, length as u64);
-    let sized = put_field(text, counted, nodes as u64);
-    let led = lent_bytes::put_bytes(text, sized, &path[0..steps]);
-    let listed = lent::put_words(text, led, &out[0..taken]);
-    let parted = put(text, listed, b" /");
-    let way = lent_bytes::put_bytes_kept(text, parted, path, steps);
-    lent::put_words_kept(text, way, out, taken)
+    let counted = put_hex(rt, text, have, length as u64);
+    let sized = put_field(rt, text, counted, nodes as u64);
+    let led = lent_bytes::put_bytes(rt, text, sized, &path[0..steps]);
+    let listed = lent::put_words(rt, text, led, &out[0..taken]);
+    let parted = put(rt, text, listed, b" /");
+    let way = lent_bytes::put_bytes_kept(rt, text, parted, path, steps);
+    lent::put_words_kept(rt, text, way, out, taken)
 }
 
-fn put_both_untouched(text: &mut [u8], have: usize, path: &[u8], out: &[u64]) -> usize {
-    let parted = put(text, have, b" /");
-    let way = lent_bytes::put_bytes_kept(text, parted, path, 0);
-    lent::put_words_kept(text, way, out, 0)
+fn put_both_untouched(rt: &impl Print, text: &mut [u8], have: usize, path: &[u8], out: &[u64]) -> usize {
+    let parted = put(rt, text, have, b" /");
+    let way = lent_bytes::put_bytes_kept(rt, text, parted, path, 0);
+    lent::put_words_kept(rt, text, way, out, 0)
 }
 
-pub(crate) fn put_site(
-    text: &mut [u8],
+pub(crate) fn put_site(rt: &impl Print, text: &mut [u8],
     have: usize,
     words: &[u64],
     width: u32,
@@ -90,14 +87,14 @@ pub(crate) fn put_site(
     lent_bytes::mark_bytes(path);
     lent::mark_words(out);
     match site_times(words, width, times, path, out) {
-        SiteAnswer::Site(length, nodes) => put_found(text, have, length, nodes, path, out),
+        SiteAnswer::Site(length, nodes) => put_found(rt, text, have, length, nodes, path, out),
         SiteAnswer::None => {
-            let named = put(text, have, b"none");
-            put_both_untouched(text, named, path, out)
+            let named = put(rt, text, have, b"none");
+            put_both_untouched(rt, text, named, path, out)
         }
         SiteAnswer::Refused(r) => {
-            let named = put_refusal(text, have, r);
-            put_both_untouched(text, named, path, out)
+            let named = put_refusal(rt, text, have, r);
+            put_both_untouched(rt, text, named, path, out)
         }
     }
 }

@@ -34,30 +34,50 @@ fn changed_word(words: &[u64], from: usize) -> usize {
 }
 
 // The number of a place that lacks its mark or its 0, where it is one of so many; else `good`.
-pub fn put_place(out: &mut [u8], have: usize, place: usize, places: usize, good: &[u8]) -> usize
+pub fn put_place(
+    rt: &impl Print,
+    out: &mut [u8],
+    have: usize,
+    place: usize,
+    places: usize,
+    good: &[u8],
+) -> usize
     ensures { result ≤ max have (length out.old) }
 {
     if place < places {
-        return put_field(out, have, place as u64);
+        return put_field(rt, out, have, place as u64);
     }
-    put(out, have, good)
+    put(rt, out, have, good)
 }
 
 // Whether the words from `from` on hold their marks.
-pub fn put_words_kept(out: &mut [u8], have: usize, words: &[u64], from: usize) -> usize
+pub fn put_words_kept(
+    rt: &impl Print,
+    out: &mut [u8],
+    have: usize,
+    words: &[u64],
+    from: usize,
+) -> usize
     ensures { result ≤ max have (length out.old) }
 {
-    put_place(out, have, changed_word(words, from), words.len(), b" kept")
+    put_place(
+        rt,
+        out,
+        have,
+        changed_word(words, from),
+        words.len(),
+        b" kept",
+    )
 }
 
 // ` /` and the words.
-pub fn put_words(out: &mut [u8], have: usize, words: &[u64]) -> usize
+pub fn put_words(rt: &impl Print, out: &mut [u8], have: usize, words: &[u64]) -> usize
     ensures { result ≤ max have (length out.old) }
 {
-    let mut waiting = put(out, have, b" /");
+    let mut waiting = put(rt, out, have, b" /");
     let mut i = 0;
     while i < words.len() {
-        waiting = put_field(out, waiting, words[i]);
+        waiting = put_field(rt, out, waiting, words[i]);
         i += 1;
     }
     waiting
@@ -84,26 +104,38 @@ pub fn places_of(count: usize, lent: usize) -> usize
 }
 
 // The words of so many nodes, and whether those behind them hold their marks.
-pub fn put_written(out: &mut [u8], have: usize, nodes: usize, words: &[u64]) -> usize
+pub fn put_written(
+    rt: &impl Print,
+    out: &mut [u8],
+    have: usize,
+    nodes: usize,
+    words: &[u64],
+) -> usize
     ensures { result ≤ max have (length out.old) }
 {
-    put_words_written(out, have, words_of(nodes, words), words)
+    put_words_written(rt, out, have, words_of(nodes, words), words)
 }
 
 // So many words, and whether those behind them hold their marks.
-pub fn put_words_written(out: &mut [u8], have: usize, count: usize, words: &[u64]) -> usize
+pub fn put_words_written(
+    rt: &impl Print,
+    out: &mut [u8],
+    have: usize,
+    count: usize,
+    words: &[u64],
+) -> usize
     ensures { result ≤ max have (length out.old) }
 {
     let taken = places_of(count, words.len());
-    let listed = put_words(out, have, &words[0..taken]);
-    let parted = put(out, listed, b" /");
-    put_words_kept(out, parted, words, taken)
+    let listed = put_words(rt, out, have, &words[0..taken]);
+    let parted = put(rt, out, listed, b" /");
+    put_words_kept(rt, out, parted, words, taken)
 }
 
 // Whether all words hold their marks.
-pub fn put_untouched(out: &mut [u8], have: usize, words: &[u64]) -> usize
+pub fn put_untouched(rt: &impl Print, out: &mut [u8], have: usize, words: &[u64]) -> usize
     ensures { result ≤ max have (length out.old) }
 {
-    let parted = put(out, have, b" /");
-    put_words_kept(out, parted, words, 0)
+    let parted = put(rt, out, have, b" /");
+    put_words_kept(rt, out, parted, words, 0)
 }

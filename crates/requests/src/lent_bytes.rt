@@ -35,10 +35,23 @@ fn changed_byte(bytes: &[u8], from: usize) -> usize {
 }
 
 // Whether the bytes from `from` on hold their marks.
-pub fn put_bytes_kept(out: &mut [u8], have: usize, bytes: &[u8], from: usize) -> usize
+pub fn put_bytes_kept(
+    rt: &impl Print,
+    out: &mut [u8],
+    have: usize,
+    bytes: &[u8],
+    from: usize,
+) -> usize
     ensures { result ≤ max have (length out.old) }
 {
-    put_place(out, have, changed_byte(bytes, from), bytes.len(), b" kept")
+    put_place(
+        rt,
+        out,
+        have,
+        changed_byte(bytes, from),
+        bytes.len(),
+        b" kept",
+    )
 }
 
 fn wide(byte: u8) -> u64 {
@@ -46,32 +59,38 @@ fn wide(byte: u8) -> u64 {
 }
 
 // ` /` and the bytes.
-pub fn put_bytes(out: &mut [u8], have: usize, bytes: &[u8]) -> usize
+pub fn put_bytes(rt: &impl Print, out: &mut [u8], have: usize, bytes: &[u8]) -> usize
     ensures { result ≤ max have (length out.old) }
 {
-    let mut waiting = put(out, have, b" /");
+    let mut waiting = put(rt, out, have, b" /");
     let mut i = 0;
     while i < bytes.len() {
-        waiting = put_field(out, waiting, wide(bytes[i]));
+        waiting = put_field(rt, out, waiting, wide(bytes[i]));
         i += 1;
     }
     waiting
 }
 
 // So many bytes, and whether those behind them hold their marks.
-pub fn put_bytes_written(out: &mut [u8], have: usize, count: usize, bytes: &[u8]) -> usize
+pub fn put_bytes_written(
+    rt: &impl Print,
+    out: &mut [u8],
+    have: usize,
+    count: usize,
+    bytes: &[u8],
+) -> usize
     ensures { result ≤ max have (length out.old) }
 {
     let taken = places_of(count, bytes.len());
-    let listed = put_bytes(out, have, &bytes[0..taken]);
-    let parted = put(out, listed, b" /");
-    put_bytes_kept(out, parted, bytes, taken)
+    let listed = put_bytes(rt, out, have, &bytes[0..taken]);
+    let parted = put(rt, out, listed, b" /");
+    put_bytes_kept(rt, out, parted, bytes, taken)
 }
 
 // Whether all bytes hold their marks.
-pub fn put_bytes_untouched(out: &mut [u8], have: usize, bytes: &[u8]) -> usize
+pub fn put_bytes_untouched(rt: &impl Print, out: &mut [u8], have: usize, bytes: &[u8]) -> usize
     ensures { result ≤ max have (length out.old) }
 {
-    let parted = put(out, have, b" /");
-    put_bytes_kept(out, parted, bytes, 0)
+    let parted = put(rt, out, have, b" /");
+    put_bytes_kept(rt, out, parted, bytes, 0)
 }

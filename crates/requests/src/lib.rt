@@ -4,6 +4,7 @@
 
 ghost use Rattle.std.specs.Prelude.{◌≡◌, length};
 
+pub mod input;
 pub mod lent;
 pub mod lent_bytes;
 pub mod output;
