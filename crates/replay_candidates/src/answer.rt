@@ -6,7 +6,9 @@ use requests::text;
 use requests::text::{LARGEST_WIDTH, MOST_WORDS};
 
 // A candidate that is lent so many words.
-fn candidate(rt: &impl Print, out: &mut [u8],
+fn candidate(
+    rt: &impl Print,
+    out: &mut [u8],
     have: usize,
     words: &[u64],
     width: u64,
@@ -25,7 +27,8 @@ fn candidate(rt: &impl Print, out: &mut [u8],
         return no_request(rt, out, have);
     }
     let mut room = [0u64; MOST_WORDS];
-    calls::put_candidate(rt, 
+    calls::put_candidate(
+        rt,
         out,
         have,
         words,
@@ -37,7 +40,14 @@ fn candidate(rt: &impl Print, out: &mut [u8],
 }
 
 // The text of the numbers before the words.
-fn of_words(rt: &impl Print, out: &mut [u8], have: usize, name: &[u8], list: &[u8], words: &[u64]) -> usize {
+fn of_words(
+    rt: &impl Print,
+    out: &mut [u8],
+    have: usize,
+    name: &[u8],
+    list: &[u8],
+    words: &[u64],
+) -> usize {
     let mut n = [0u64; 4];
     let listed = text::words_in(list, &mut n);
     if !listed.good {

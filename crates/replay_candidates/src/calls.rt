@@ -19,7 +19,9 @@ fn candidate_times(
     atom_identity_rewrite::try_match_all(words, width, number, out)
 }
 
-pub(crate) fn put_candidate(rt: &impl Print, text: &mut [u8],
+pub(crate) fn put_candidate(
+    rt: &impl Print,
+    text: &mut [u8],
     have: usize,
     words: &[u64],
     width: u32,

@@ -18,7 +18,9 @@ fn work_buffer() -> [u64; MOST_WORK]
 }
 
 // A chain that is lent so many words.
-fn chain(rt: &impl Print, out: &mut [u8],
+fn chain(
+    rt: &impl Print,
+    out: &mut [u8],
     have: usize,
     words: &[u64],
     width: u32,
@@ -31,7 +33,8 @@ fn chain(rt: &impl Print, out: &mut [u8],
         return no_request(rt, out, have);
     }
     let mut work = work_buffer();
-    calls::put_chain(rt, 
+    calls::put_chain(
+        rt,
         out,
         have,
         words,
@@ -43,7 +46,9 @@ fn chain(rt: &impl Print, out: &mut [u8],
 }
 
 // The text of the numbers before the lists.
-fn of_lists(rt: &impl Print, out: &mut [u8],
+fn of_lists(
+    rt: &impl Print,
+    out: &mut [u8],
     have: usize,
     name: &[u8],
     list: &[u8],
@@ -70,7 +75,14 @@ fn of_lists(rt: &impl Print, out: &mut [u8],
 }
 
 // The text of the widths and of the tree.
-fn of_widths(rt: &impl Print, out: &mut [u8], have: usize, name: &[u8], list: &[u8], lists: &[u8]) -> usize {
+fn of_widths(
+    rt: &impl Print,
+    out: &mut [u8],
+    have: usize,
+    name: &[u8],
+    list: &[u8],
+    lists: &[u8],
+) -> usize {
     let split = text::first_list(lists);
     if !split.more {
         return no_request(rt, out, have);

@@ -33,7 +33,14 @@ fn nonzero_word(words: &[u64], from: usize) -> usize {
 }
 
 // The end tree, and whether the words behind it are 0.
-fn put_end(rt: &impl Print, text: &mut [u8], have: usize, nodes: usize, count: usize, work: &[u64]) -> usize {
+fn put_end(
+    rt: &impl Print,
+    text: &mut [u8],
+    have: usize,
+    nodes: usize,
+    count: usize,
+    work: &[u64],
+) -> usize {
     let taken = lent::words_of(nodes, work);
     let sized = put_hex(rt, text, have, nodes as u64);
     let counted = put_field(rt, text, sized, count as u64);
@@ -43,7 +50,9 @@ fn put_end(rt: &impl Print, text: &mut [u8], have: usize, nodes: usize, count: u
     lent::put_place(rt, text, parted, place, work.len(), b" zero")
 }
 
-pub(crate) fn put_chain(rt: &impl Print, text: &mut [u8],
+pub(crate) fn put_chain(
+    rt: &impl Print,
+    text: &mut [u8],
     have: usize,
     words: &[u64],
     width: u32,

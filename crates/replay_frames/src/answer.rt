@@ -6,7 +6,15 @@ use requests::text;
 use requests::text::{LARGEST_WIDTH, MOST_BYTES};
 
 // The last digits of a number, lent so many bytes.
-fn put_digits(rt: &impl Print, out: &mut [u8], have: usize, name: &[u8], n: u64, count: u64, size: u64) -> usize {
+fn put_digits(
+    rt: &impl Print,
+    out: &mut [u8],
+    have: usize,
+    name: &[u8],
+    n: u64,
+    count: u64,
+    size: u64,
+) -> usize {
     let most = size as usize;
     if MOST_BYTES < most {
         return no_request(rt, out, have);
@@ -19,7 +27,14 @@ fn put_digits(rt: &impl Print, out: &mut [u8], have: usize, name: &[u8], n: u64,
 }
 
 // All digits of a number, lent so many bytes.
-fn put_number(rt: &impl Print, out: &mut [u8], have: usize, name: &[u8], n: u64, size: u64) -> usize {
+fn put_number(
+    rt: &impl Print,
+    out: &mut [u8],
+    have: usize,
+    name: &[u8],
+    n: u64,
+    size: u64,
+) -> usize {
     let most = size as usize;
     if MOST_BYTES < most {
         return no_request(rt, out, have);
@@ -73,7 +88,14 @@ fn of_one_list(rt: &impl Print, out: &mut [u8], have: usize, name: &[u8], list: 
 }
 
 // The text of the numbers that the first list is, and that of the lists behind it.
-fn of_lists(rt: &impl Print, out: &mut [u8], have: usize, name: &[u8], list: &[u8], others: &[u8]) -> usize {
+fn of_lists(
+    rt: &impl Print,
+    out: &mut [u8],
+    have: usize,
+    name: &[u8],
+    list: &[u8],
+    others: &[u8],
+) -> usize {
     let mut n = [0u32; 2];
     let listed = text::u32s_in(list, &mut n);
     if !listed.good {

@@ -7,14 +7,26 @@ use requests::{lent, lent_bytes};
 
 // ---- expr and width
 
-pub(crate) fn check_tree_at(rt: &impl Print, text: &mut [u8], have: usize, words: &[u64], width: u32) -> usize {
+pub(crate) fn check_tree_at(
+    rt: &impl Print,
+    text: &mut [u8],
+    have: usize,
+    words: &[u64],
+    width: u32,
+) -> usize {
     match width::check_tree_at(words, width) {
         Counted::Count(nodes) => put_hex(rt, text, have, nodes as u64),
         Counted::Refused(r) => put_refusal(rt, text, have, r),
     }
 }
 
-pub(crate) fn copy_words(rt: &impl Print, text: &mut [u8], have: usize, words: &[u64], out: &mut [u64]) -> usize {
+pub(crate) fn copy_words(
+    rt: &impl Print,
+    text: &mut [u8],
+    have: usize,
+    words: &[u64],
+    out: &mut [u64],
+) -> usize {
     lent::mark_words(out);
     expr::copy_words(words, out);
     let named = put(rt, text, have, b"at");
@@ -29,7 +41,9 @@ fn number(rt: &impl Print, text: &mut [u8], have: usize, bytes: &[u8]) -> usize 
     put_field(rt, text, valued, parsed.good as u64)
 }
 
-pub(crate) fn put_digits(rt: &impl Print, text: &mut [u8],
+pub(crate) fn put_digits(
+    rt: &impl Print,
+    text: &mut [u8],
     have: usize,
     n: u64,
     count: usize,
@@ -41,14 +55,26 @@ pub(crate) fn put_digits(rt: &impl Print, text: &mut [u8],
     lent_bytes::put_bytes_written(rt, text, named, count, out)
 }
 
-pub(crate) fn put_number(rt: &impl Print, text: &mut [u8], have: usize, n: u64, out: &mut [u8]) -> usize {
+pub(crate) fn put_number(
+    rt: &impl Print,
+    text: &mut [u8],
+    have: usize,
+    n: u64,
+    out: &mut [u8],
+) -> usize {
     lent_bytes::mark_bytes(out);
     let count = hexadecimal::put_number(n, out);
     let counted = put_hex(rt, text, have, count as u64);
     lent_bytes::put_bytes_written(rt, text, counted, count, out)
 }
 
-pub(crate) fn read_nodes(rt: &impl Print, text: &mut [u8], have: usize, bytes: &[u8], out: &mut [u64]) -> usize {
+pub(crate) fn read_nodes(
+    rt: &impl Print,
+    text: &mut [u8],
+    have: usize,
+    bytes: &[u8],
+    out: &mut [u64],
+) -> usize {
     lent::mark_words(out);
     let good = hexadecimal::read_nodes(bytes, out);
     let nodes = lent::places_of(bytes.len() / 18, out.len() / 2);
@@ -56,7 +82,13 @@ pub(crate) fn read_nodes(rt: &impl Print, text: &mut [u8], have: usize, bytes: &
     lent::put_written(rt, text, judged, nodes, out)
 }
 
-pub(crate) fn put_nodes(rt: &impl Print, text: &mut [u8], have: usize, words: &[u64], out: &mut [u8]) -> usize {
+pub(crate) fn put_nodes(
+    rt: &impl Print,
+    text: &mut [u8],
+    have: usize,
+    words: &[u64],
+    out: &mut [u8],
+) -> usize {
     lent_bytes::mark_bytes(out);
     hexadecimal::put_nodes(words, out);
     let nodes = lent::places_of(words.len() / 2, out.len() / 18);
@@ -71,7 +103,9 @@ fn end_of(rt: &impl Print, text: &mut [u8], have: usize, bytes: &[u8]) -> usize 
 }
 
 // `line` has its marks behind what it begins with.
-pub(crate) fn keep(rt: &impl Print, text: &mut [u8],
+pub(crate) fn keep(
+    rt: &impl Print,
+    text: &mut [u8],
     have: usize,
     chunk: &[u8],
     kept: usize,
@@ -85,7 +119,13 @@ pub(crate) fn keep(rt: &impl Print, text: &mut [u8],
 }
 
 // The one of the two calls on bytes alone that has the name.
-pub(crate) fn of_bytes(rt: &impl Print, text: &mut [u8], have: usize, name: &[u8], bytes: &[u8]) -> usize {
+pub(crate) fn of_bytes(
+    rt: &impl Print,
+    text: &mut [u8],
+    have: usize,
+    name: &[u8],
+    bytes: &[u8],
+) -> usize {
     if same(name, b"number") {
         return number(rt, text, have, bytes);
     }
@@ -98,7 +138,13 @@ pub(crate) fn nodes_in(rt: &impl Print, text: &mut [u8], have: usize, bytes: usi
     put_hex(rt, text, have, frame::nodes_in(bytes) as u64)
 }
 
-pub(crate) fn read_frame(rt: &impl Print, text: &mut [u8], have: usize, line: &[u8], out: &mut [u64]) -> usize {
+pub(crate) fn read_frame(
+    rt: &impl Print,
+    text: &mut [u8],
+    have: usize,
+    line: &[u8],
+    out: &mut [u64],
+) -> usize {
     lent::mark_words(out);
     match frame::read_frame(line, out) {
         FrameRead::Frame(width, nodes) => {
@@ -113,7 +159,9 @@ pub(crate) fn read_frame(rt: &impl Print, text: &mut [u8], have: usize, line: &[
     }
 }
 
-pub(crate) fn write_frame(rt: &impl Print, text: &mut [u8],
+pub(crate) fn write_frame(
+    rt: &impl Print,
+    text: &mut [u8],
     have: usize,
     words: &[u64],
     width: u32,

@@ -6,7 +6,14 @@ use requests::text::{MOST_BYTES, MOST_WORDS};
 use requests::{lent_bytes, text};
 
 // A call that is lent so many words.
-fn with_words(rt: &impl Print, out: &mut [u8], have: usize, name: &[u8], size: u32, bytes: &[u8]) -> usize {
+fn with_words(
+    rt: &impl Print,
+    out: &mut [u8],
+    have: usize,
+    name: &[u8],
+    size: u32,
+    bytes: &[u8],
+) -> usize {
     let most = size as usize;
     if MOST_WORDS < most {
         return no_request(rt, out, have);
@@ -19,7 +26,14 @@ fn with_words(rt: &impl Print, out: &mut [u8], have: usize, name: &[u8], size: u
 }
 
 // The nodes or the frame that bytes are.
-fn of_bytes(rt: &impl Print, out: &mut [u8], have: usize, name: &[u8], size: u32, list: &[u8]) -> usize {
+fn of_bytes(
+    rt: &impl Print,
+    out: &mut [u8],
+    have: usize,
+    name: &[u8],
+    size: u32,
+    list: &[u8],
+) -> usize {
     let mut bytes = requests::byte_buffer();
     let listed = text::bytes_in(list, &mut bytes);
     if !listed.good {
@@ -49,7 +63,14 @@ fn put_nodes(rt: &impl Print, out: &mut [u8], have: usize, words: &[u64], size: 
     calls::put_nodes(rt, out, have, words, &mut room[0..most])
 }
 
-fn by_words(rt: &impl Print, out: &mut [u8], have: usize, name: &[u8], number: u32, words: &[u64]) -> usize {
+fn by_words(
+    rt: &impl Print,
+    out: &mut [u8],
+    have: usize,
+    name: &[u8],
+    number: u32,
+    words: &[u64],
+) -> usize {
     if same(name, b"check_tree_at") {
         return calls::check_tree_at(rt, out, have, words, number);
     }
@@ -63,7 +84,14 @@ fn by_words(rt: &impl Print, out: &mut [u8], have: usize, name: &[u8], number: u
 }
 
 // A width or a size, and the text of the words.
-fn of_words(rt: &impl Print, out: &mut [u8], have: usize, name: &[u8], number: u32, list: &[u8]) -> usize {
+fn of_words(
+    rt: &impl Print,
+    out: &mut [u8],
+    have: usize,
+    name: &[u8],
+    number: u32,
+    list: &[u8],
+) -> usize {
     let mut words = [0u64; MOST_WORDS];
     let listed = text::words_in(list, &mut words);
     if !listed.good {
@@ -74,7 +102,9 @@ fn of_words(rt: &impl Print, out: &mut [u8], have: usize, name: &[u8], number: u
 }
 
 // A number, and the text of words or bytes.
-pub(crate) fn of_one_number(rt: &impl Print, out: &mut [u8],
+pub(crate) fn of_one_number(
+    rt: &impl Print,
+    out: &mut [u8],
     have: usize,
     name: &[u8],
     number: u32,
@@ -87,7 +117,14 @@ pub(crate) fn of_one_number(rt: &impl Print, out: &mut [u8],
 }
 
 // A frame that is lent so many bytes.
-fn write_frame(rt: &impl Print, out: &mut [u8], have: usize, width: u32, size: u32, list: &[u8]) -> usize {
+fn write_frame(
+    rt: &impl Print,
+    out: &mut [u8],
+    have: usize,
+    width: u32,
+    size: u32,
+    list: &[u8],
+) -> usize {
     let most = size as usize;
     if MOST_BYTES < most {
         return no_request(rt, out, have);
@@ -103,7 +140,14 @@ fn write_frame(rt: &impl Print, out: &mut [u8], have: usize, width: u32, size: u
 }
 
 // A line of which so many bytes are kept, and the text of a chunk.
-fn keep_on(rt: &impl Print, out: &mut [u8], have: usize, kept: u32, line: &mut [u8], list: &[u8]) -> usize {
+fn keep_on(
+    rt: &impl Print,
+    out: &mut [u8],
+    have: usize,
+    kept: u32,
+    line: &mut [u8],
+    list: &[u8],
+) -> usize {
     let mut chunk = requests::byte_buffer();
     let listed = text::bytes_in(list, &mut chunk);
     if !listed.good {
@@ -132,7 +176,9 @@ fn keep(rt: &impl Print, out: &mut [u8], have: usize, kept: u32, size: u32, list
 }
 
 // Two numbers, and the text of one list or two.
-pub(crate) fn of_two_numbers(rt: &impl Print, out: &mut [u8],
+pub(crate) fn of_two_numbers(
+    rt: &impl Print,
+    out: &mut [u8],
     have: usize,
     name: &[u8],
     first: u32,

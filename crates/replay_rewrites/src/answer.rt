@@ -9,7 +9,15 @@ use requests::text::MOST_WORDS;
 const MOST_PATH: usize = 100;
 
 // A local rewrite that is lent so many words.
-fn local(rt: &impl Print, out: &mut [u8], have: usize, words: &[u64], width: u32, size: u32, times: u32) -> usize {
+fn local(
+    rt: &impl Print,
+    out: &mut [u8],
+    have: usize,
+    words: &[u64],
+    width: u32,
+    size: u32,
+    times: u32,
+) -> usize {
     let most = size as usize;
     if MOST_WORDS < most {
         return no_request(rt, out, have);
@@ -19,7 +27,9 @@ fn local(rt: &impl Print, out: &mut [u8], have: usize, words: &[u64], width: u32
 }
 
 // A first site that is lent so many words, and so many bytes for its path.
-fn site(rt: &impl Print, out: &mut [u8],
+fn site(
+    rt: &impl Print,
+    out: &mut [u8],
     have: usize,
     words: &[u64],
     width: u32,
@@ -37,7 +47,8 @@ fn site(rt: &impl Print, out: &mut [u8],
     }
     let mut room = [0u64; MOST_WORDS];
     let mut way = [0u8; MOST_PATH];
-    calls::put_site(rt, 
+    calls::put_site(
+        rt,
         out,
         have,
         words,
@@ -49,7 +60,14 @@ fn site(rt: &impl Print, out: &mut [u8],
 }
 
 // The text of the numbers before the words.
-fn of_words(rt: &impl Print, out: &mut [u8], have: usize, name: &[u8], list: &[u8], words: &[u64]) -> usize {
+fn of_words(
+    rt: &impl Print,
+    out: &mut [u8],
+    have: usize,
+    name: &[u8],
+    list: &[u8],
+    words: &[u64],
+) -> usize {
     let mut n = [0u32; 4];
     let listed = text::u32s_in(list, &mut n);
     if !listed.good {

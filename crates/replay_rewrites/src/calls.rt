@@ -28,7 +28,9 @@ fn site_times(
     atom_simplifier::find_first_certifiable_atom_rewrite(words, width, path, out)
 }
 
-pub(crate) fn put_local(rt: &impl Print, text: &mut [u8],
+pub(crate) fn put_local(
+    rt: &impl Print,
+    text: &mut [u8],
     have: usize,
     words: &[u64],
     width: u32,
@@ -52,7 +54,9 @@ pub(crate) fn put_local(rt: &impl Print, text: &mut [u8],
     }
 }
 
-fn put_found(rt: &impl Print, text: &mut [u8],
+fn put_found(
+    rt: &impl Print,
+    text: &mut [u8],
     have: usize,
     length: usize,
     nodes: usize,
@@ -70,13 +74,21 @@ fn put_found(rt: &impl Print, text: &mut [u8],
     lent::put_words_kept(rt, text, way, out, taken)
 }
 
-fn put_both_untouched(rt: &impl Print, text: &mut [u8], have: usize, path: &[u8], out: &[u64]) -> usize {
+fn put_both_untouched(
+    rt: &impl Print,
+    text: &mut [u8],
+    have: usize,
+    path: &[u8],
+    out: &[u64],
+) -> usize {
     let parted = put(rt, text, have, b" /");
     let way = lent_bytes::put_bytes_kept(rt, text, parted, path, 0);
     lent::put_words_kept(rt, text, way, out, 0)
 }
 
-pub(crate) fn put_site(rt: &impl Print, text: &mut [u8],
+pub(crate) fn put_site(
+    rt: &impl Print,
+    text: &mut [u8],
     have: usize,
     words: &[u64],
     width: u32,
