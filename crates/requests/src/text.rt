@@ -14,14 +14,14 @@ const LARGEST_WORD: u64 = 0xffff_ffff_ffff_ffff;
 
 const LARGEST_BYTE: u64 = 0xff;
 
-#[derive(Drop)]
+#[derive(Clone, Copy)]
 enum Field {
     Number(u64),
     Bad,
 }
 
 // Whether a place of a list has a number, which, and where its text ends.
-#[derive(Drop)]
+#[derive(Clone, Copy)]
 struct Entry {
     good: bool,
     value: u64,
@@ -29,14 +29,14 @@ struct Entry {
 }
 
 // Whether a text is a list, and how many of its numbers were read.
-#[derive(Drop)]
+#[derive(Clone, Copy)]
 pub struct Listed {
     pub good: bool,
     pub count: usize,
 }
 
 // Whether more lists follow the first one of a text, where it ends, and where the text of the next ones begins.
-#[derive(Drop)]
+#[derive(Clone, Copy)]
 pub struct Split {
     pub more: bool,
     pub end: usize,
