@@ -90,8 +90,8 @@ fn count_places(n: u64) -> usize
 
 // Puts n without zeros in front at the front of `out`, or as many of its last digits as `out` has places; how many digits those are.
 pub fn put_number(n: u64, out: &mut [u8]) -> usize
-    ensures value { result ≡ min (places n) (length out.old) }
-    ensures out_after { out.new ≡ over (digits result n) out.old }
+    ensures count { result ≡ min (places n) (length out.old) }
+    ensures written { out.new ≡ over (digits result n) out.old }
 {
     let count = least(count_places(n), out.len());
     put_digits(n, count, out);
@@ -140,8 +140,8 @@ fn operand(s: &[u8]) -> Parsed
 // Puts the words of the one node whose digits `s` begins with at the front of `out`; whether each byte of it is a digit.
 fn read_node(s: &[u8], out: &mut [u64]) -> bool
     requires { (18 ≤ length s.now) × (2 ≤ length out.old) }
-    ensures value { result ≡ all_digits (take 18 s.now) }
-    ensures laid { Laid out.old out.new (words_of 1 s.now) }
+    ensures good { result ≡ all_digits (take 18 s.now) }
+    ensures written { Laid out.old out.new (words_of 1 s.now) }
 {
     let kind = number(&s[0..2]);
     let operand = operand(&s[2..18]);
@@ -153,8 +153,8 @@ fn read_node(s: &[u8], out: &mut [u64]) -> bool
 // Puts the words of the nodes whose digits `s` is at the front of `out`, as many whole nodes as `s` has and `out` has room for; whether each
 // byte that was read is a digit. The words are written also where one is not.
 pub fn read_nodes(s: &[u8], out: &mut [u64]) -> bool
-    ensures value { result ≡ all_digits (take (18 * min (length s.now / 18) (length out.old / 2)) s.now) }
-    ensures out_after { out.new ≡ over (words_of (min (length s.now / 18) (length out.old / 2)) s.now) out.old }
+    ensures good { result ≡ all_digits (take (18 * min (length s.now / 18) (length out.old / 2)) s.now) }
+    ensures written { out.new ≡ over (words_of (min (length s.now / 18) (length out.old / 2)) s.now) out.old }
 {
     let count = least(s.len() / 18, out.len() / 2);
     let mut good = true;
