@@ -59,9 +59,10 @@ fn least(a: usize, b: usize) -> usize
 // Reads a chunk up to its first 0a: keeps the bytes before it in `line`, behind the `have` that are kept there. A `have` past the end of `line`
 // stands for all of it.
 pub fn keep(chunk: &[u8], line: &mut [u8], have: usize) -> Taken
-    ensures used_value { (result.used ≡ used_of chunk.now) × (result.ended ≡ has_end chunk.now) }
-    ensures have_value { result.have ≡ length (kept (length line.old) (take have line.old) chunk.now) }
-    ensures line_after { line.new ≡ over (kept (length line.old) (take have line.old) chunk.now) line.old }
+    ensures used { result.used ≡ used_of chunk.now }
+    ensures ended { result.ended ≡ has_end chunk.now }
+    ensures have { result.have ≡ length (kept (length line.old) (take have line.old) chunk.now) }
+    ensures written { line.new ≡ over (kept (length line.old) (take have line.old) chunk.now) line.old }
 {
     let size = chunk.len();
     let end = end_of(chunk);
