@@ -16,12 +16,13 @@ def built_harness():
 
 
 def built_program(name):
-    root = os.path.join(HERE, "..")
+    crate = os.path.join(HERE, "../crates", name)
     with tempfile.TemporaryFile() as said:  # of interest only where it fails
-        if subprocess.run(["rt", "check", name], cwd=root, stdout=said, stderr=said).returncode:
+        # proves, builds and runs it, on an empty input
+        if subprocess.run(["rt", "run"], cwd=crate, stdin=subprocess.DEVNULL, stdout=said, stderr=said).returncode:
             said.seek(0)
             sys.exit(said.read().decode())
-    return os.path.join(root, "target/bin", name)
+    return os.path.join(crate, "out", name)
 
 
 def built(name):
