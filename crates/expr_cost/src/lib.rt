@@ -14,7 +14,7 @@ ghost use Rattle.expr_cost.specs.Answers.{cost_outcome};
 use expr::refusal::Refusal;
 use expr::{Arity, Counted, kind};
 
-#[derive(Drop)]
+#[derive(Clone, Copy)]
 pub struct ExprCost {
     pub weighted_size: u32,
     pub nonlinear_mul_count: u32,
@@ -22,20 +22,20 @@ pub struct ExprCost {
 }
 
 // A cost, and whether the tree has a Variable: a product's weight depends on that of its operands.
-#[derive(Drop)]
+#[derive(Clone, Copy)]
 pub struct CostInfo {
     pub cost: ExprCost,
     pub has_var_dep: bool,
 }
 
-#[derive(Drop)]
+#[derive(Clone, Copy)]
 pub enum CostAnswer {
     Cost(CostInfo),
     Refused(Refusal),
 }
 
 // A subtree's cost, and how many words it takes.
-#[derive(Drop)]
+#[derive(Clone, Copy)]
 struct CostRead {
     words: usize,
     info: CostInfo,

@@ -16,21 +16,21 @@ use expr::Counted;
 use expr::refusal::Refusal;
 
 // A width and a number of nodes, or a refusal.
-#[derive(Drop)]
+#[derive(Clone, Copy)]
 pub enum FrameRead {
     Frame(u32, usize),
     Refused(Refusal),
 }
 
 // A number of bytes, or a refusal.
-#[derive(Drop)]
+#[derive(Clone, Copy)]
 pub enum FrameWritten {
     Written(usize),
     Refused(Refusal),
 }
 
 // The width and the number of words that a line stands for; no words where it is no frame.
-#[derive(Drop)]
+#[derive(Clone, Copy)]
 struct Line {
     width: u32,
     count: usize,
@@ -120,8 +120,8 @@ fn word_buffer() -> [u64; 1024]
 
 // Reads a line, with or without its one final 0a: puts the words of its tree at the front of `out`.
 pub fn read_frame(line: &[u8], out: &mut [u64]) -> FrameRead
-    ensures result_value { read_outcome result ≡ mapped (λ p. (p.0, nodes p.1)) (read_frame line.now (length out.old)) }
-    ensures out_after { out.new ≡ lent_after (λ p. encode p.1) (read_frame line.now (length out.old)) out.old }
+    ensures answer { read_outcome result ≡ mapped (λ p. (p.0, nodes p.1)) (read_frame line.now (length out.old)) }
+    ensures written { out.new ≡ lent_after (λ p. encode p.1) (read_frame line.now (length out.old)) out.old }
 {
     let end = line_end(line);
     let mut words = word_buffer();
@@ -143,8 +143,8 @@ fn put_frame(words: &[u64], width: u32, out: &mut [u8])
 
 // Puts the frame of a tree, its 0a included, at the front of `out`.
 pub fn write_frame(words: &[u64], width: u32, out: &mut [u8]) -> FrameWritten
-    ensures result_value { written_outcome result ≡ mapped (λ t. 3 + 18 * nodes t) (write_frame words.now width (length out.old)) }
-    ensures out_after { out.new ≡ lent_after (frame width) (write_frame words.now width (length out.old)) out.old }
+    ensures answer { written_outcome result ≡ mapped (λ t. 3 + 18 * nodes t) (write_frame words.now width (length out.old)) }
+    ensures written { out.new ≡ lent_after (frame width) (write_frame words.now width (length out.old)) out.old }
 {
     match width::check_tree_at(words, width) {
         Counted::Refused(r) => FrameWritten::Refused(r),

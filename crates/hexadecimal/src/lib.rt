@@ -10,7 +10,7 @@ ghost use Rattle.hexadecimal.specs.Promises.{all_zeros};
 ghost use Rattle.hexadecimal.specs.Nodes.{nodes_text, words_of};
 
 // What bytes stand for, and whether each of them is a digit.
-#[derive(Drop)]
+#[derive(Clone, Copy)]
 pub struct Parsed {
     pub value: u64,
     pub good: bool,

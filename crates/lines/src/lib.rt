@@ -7,7 +7,7 @@ ghost use Rattle.expr.specs.Lent.{over};
 ghost use Rattle.lines.specs.Lines.{up_to, has_end, used_of, kept};
 
 // How many bytes of a chunk were read, how many of its line are kept, and whether the line has ended.
-#[derive(Drop)]
+#[derive(Clone, Copy)]
 pub struct Taken {
     pub used: usize,
     pub have: usize,
