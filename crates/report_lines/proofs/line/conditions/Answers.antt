@@ -1,0 +1,17 @@
+-- `report_lines::line::conditions` meets its contract. The measure is the number of words left. Assumes nothing.
+use Prim.Native.Nat.{◌-◌}
+use lib.ListN.{length}
+use Rattle.report_lines.proofs.ConditionsLaws.{Finding, finding}
+use Rattle.arith.specs.NeedLaws.{basics}
+use Rattle.report_lines.proofs.line.conditions.Goals as goal
+
+ruleset laws = (basics, finding)
+
+pub raised-found-requires : goal.raised-found-requires
+raised-found-requires c = search laws
+
+pub loop-i-preserved : goal.loop-i-preserved
+loop-i-preserved c = search laws
+
+pub returns : goal.returns
+returns c = search laws
