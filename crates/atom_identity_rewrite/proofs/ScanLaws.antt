@@ -1,15 +1,21 @@
--- A list of addends that is read one after the other. Assumes nothing.
+-- A list of addends that is filled, and that is read, one after the other. Assumes nothing.
 use mathlib.Core.Path.{◌≡◌, refl, sym, ap, subst, ◌∙◌}
 use mathlib.Core.List.{List, [], ◌∷◌, ◌++◌, append_assoc, append-nil}
 use Prim.Native.Nat.{ℕ, zero, suc, ◌+◌, ◌<◌, ◌≤◌}
 use native.Mathlib.Numerals.{add-one}
 use native.Mathlib.Omega.{arith}
-use lib.ListN.{length, take, get_or}
+use lib.ListN.{length, take, get_or, set}
 use lib.Seq.{take-suc, get_or-take, length-take-le}
+use Rattle.expr.specs.LentLaws.{filled, filled_next}
 use Rattle.rewriting.specs.AtomIdentityRewrite as def
 use Rattle.atom_identity_rewrite.specs.declared.addends.Addend.{Addend}
 use Rattle.atom_identity_rewrite.specs.declared.reading.Reading.{Reading}
 use Rattle.atom_identity_rewrite.specs.Promises.{no_addend, AddendIs, AddendsAre, Addended, Named, Reads, Carries, Carried}
+
+-- ---- what was filled up to i
+
+pub filled_on : (from onto out : List Addend) (i : ℕ) (a : Addend) → out ≡ filled from onto i → a ≡ get_or from i no_addend → length from ≡ 256 → i < 256 → i < length onto → set out i a ≡ filled from onto (i + 1)
+filled_on from onto out i a so_far is full held room = rw (is, so_far) (filled_next from onto i no_addend (omega (arith, full)) room)
 
 -- ---- each addend of the list is named
 

@@ -1,15 +1,15 @@
 -- One addend more is read.
-use Rattle.std.proofs.Common.{arith, ◌<◌, length}
+use Rattle.std.proofs.Common.{rules}
 use Rattle.atom_identity_rewrite.proofs.ScanLaws.{named_one, carried_none, carried_on}
 use Rattle.atom_identity_rewrite.proofs.addends.scan.Goals as goal
 
+ruleset laws = (rules, named_one, carried_none, carried_on)
+
 pub loop-at-init : goal.loop-at-init
-loop-at-init c = record { within = omega arith; so_far = carried_none _ _ }
+loop-at-init c = search laws
 
 pub step-t-requires : goal.step-t-requires
-step-t-requires c = (named_one _ _ c.args.n _ c.requires.2 c.requires.0 c.loop-at-test.true, c.requires.1)
+step-t-requires c = search laws
 
 pub loop-at-preserved : goal.loop-at-preserved
-loop-at-preserved c =
-    let inside : c.loop-at.at < length c.args.list.now = omega arith in
-    record { within = omega arith; so_far = carried_on _ _ _ _ _ _ inside c.loop-at.invariant.so_far c.step-t.ensures }
+loop-at-preserved c = search laws
