@@ -32,7 +32,7 @@ use Rattle.rewriting.specs.MatchLaws.{neg_number}
 use Rattle.rewriting.specs.AtomIdentityRewrite as def
 use Rattle.rewriting.specs.AtomIdentityRewrite.{to_list, match_xor_and_absorb, match_xor_via_or_minus_and, match_and_via_not_or_minus_not, flatten_addends, lax_and, lax_xor, each, is_add, tagged, lax_candidates, candidates}
 use Rattle.rewriting.specs.CandidateClaims.{numbered}
-use Rattle.rewriting.specs.CandidateLaws.{claim_at}
+use Rattle.rewriting.proofs.CandidateLaws.{claim_at}
 use Rattle.atom_identity_rewrite.specs.declared.CandidateAnswer.{CandidateAnswer}
 use Rattle.atom_identity_rewrite.specs.declared.CandidateAnswer.TheVariants as answer
 use Rattle.atom_identity_rewrite.specs.declared.candidate.Match.{Match}
