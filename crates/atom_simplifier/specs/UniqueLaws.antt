@@ -2,7 +2,7 @@
 use Rattle.std.proofs.Math.Path.{◌≡◌, sym, ap, ap₂}
 use Rattle.std.proofs.Common.{◌∙◌, arith}
 use Rattle.std.specs.Prelude.{List, ◌++◌, length, replicate}
-use Prim.Native.Nat.{ℕ, ◌+◌, ◌-◌}
+use Prim.Native.Nat.{ℕ, ◌-◌}
 use Rattle.expr.specs.Outcome.{Outcome, refused, accepted}
 use Rattle.expr.specs.Expr.{Expr, encode, nodes}
 use Rattle.rewriting.specs.Chain.{last_of}

@@ -1,14 +1,10 @@
 -- The arity of a node, or its own refusal. Assumes nothing.
 use mathlib.Core.Path.{◌≡◌, refl, sym, ap, ◌∙◌}
 use mathlib.Core.Bool.{Bool, true, false, not}
-use mathlib.Core.List.{[], ◌∷◌}
-use mathlib.Core.Logic.{⊎_elim}
 use Prim.Native.Nat.{ℕ}
 use native.Mathlib.Omega.{arith}
 use lib.Dec.{eqb}
 use borrow.Author.Tests.{eq-eqb, ne_eqb, not-true, not-false}
-use denote.Enum.Declared.{tag_of}
-use types.Run.{OneOf}
 use Rattle.arith.specs.Choice.{if◌then◌else◌}
 use Rattle.expr.specs.declared.refusal.Reason.{Reason}
 use Rattle.expr.specs.declared.refusal.Refusal.{Refusal}
@@ -20,7 +16,6 @@ use Rattle.expr.specs.OutcomeLaws.{then_accepted, Made, mapped_made}
 use Rattle.expr.specs.Parse.{Kind, arity, arity_of, kinds, kind_at, operand_ok, node_kind}
 use Rattle.expr.specs.KindLaws.{arity_is}
 use Rattle.expr.specs.Answers.{arity_outcome}
-use Rattle.expr.specs.contracts.Arity.{the_type}
 
 -- an arity that is no refusal is a number
 accepts : (a : Arity) → ((r : Refusal) → a ≡ Refused r → ⊥) → (n : ℕ) × (accepted n ≡ arity_outcome a)

@@ -202,7 +202,14 @@ fn read_all(
 }
 
 // At the end of the input: writes what is left of the report.
-fn write_rest(rt: &impl Print, state: State, line: &[u8], words: &mut [u64], work: &mut [u64], out: &mut [u8])
+fn write_rest(
+    rt: &impl Print,
+    state: State,
+    line: &[u8],
+    words: &mut [u64],
+    work: &mut [u64],
+    out: &mut [u8],
+)
     requires { Ready state line.now words.old work.old out.old }
 {
     let put = report_lines::finish(state, line, words, work, out);
@@ -245,6 +252,13 @@ fn main(rt: HostRuntime) {
     };
     let start = State { totals, have: 0 };
     report(
-        &rt, &mut rt.stdin(), start, &mut input, &mut line, &mut words, &mut work, &mut out,
+        &rt,
+        &mut rt.stdin(),
+        start,
+        &mut input,
+        &mut line,
+        &mut words,
+        &mut work,
+        &mut out,
     );
 }

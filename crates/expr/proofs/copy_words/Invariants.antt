@@ -1,7 +1,6 @@
 -- `expr::copy_words` meets its contract. The measure is what is left to copy. Assumes nothing.
 use Prim.Native.Nat.{◌-◌}
-use borrow.Author.Rules.{rules}
-use Rattle.expr.proofs.CopyLaws.{Copying, copying}
+use Rattle.expr.proofs.CopyLaws.{Copying}
 use Rattle.expr.proofs.copy_words.Given as goal
 
 abbrev pub invariant-loop-at : goal.invariant-loop-at

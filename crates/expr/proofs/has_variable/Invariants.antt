@@ -1,8 +1,7 @@
 -- `expr::has_variable` meets its contract. The measure is what is left of the words. Assumes nothing.
 use Prim.Native.Nat.{◌-◌}
 use lib.ListN.{length}
-use borrow.Author.Rules.{rules}
-use Rattle.expr.proofs.VariableLaws.{Looking, looking_first, variable_none, variable_found, looking_on}
+use Rattle.expr.proofs.VariableLaws.{Looking}
 use Rattle.expr.proofs.has_variable.Given as goal
 
 abbrev pub invariant-loop-i : goal.invariant-loop-i

@@ -1,8 +1,7 @@
 -- `expr::same_words` meets its contract. The measure is what is left of the words. Assumes nothing.
 use Prim.Native.Nat.{◌-◌}
 use lib.ListN.{length}
-use borrow.Author.Rules.{rules}
-use Rattle.expr.proofs.SameLaws.{Same, lengths_differ, same_first, same_end, words_differ, same_on}
+use Rattle.expr.proofs.SameLaws.{Same}
 use Rattle.expr.proofs.same_words.Given as goal
 
 abbrev pub invariant-loop-i : goal.invariant-loop-i

@@ -1,8 +1,7 @@
 -- `expr::span` meets its contract. The measure is what is left of the words. Assumes nothing.
 use Prim.Native.Nat.{◌-◌}
 use lib.ListN.{length}
-use borrow.Author.Rules.{rules}
-use Rattle.expr.proofs.DueLaws.{Going, span_count, going_first, span_done, words_ended, kind_refused, going_zero, going_one, going_two}
+use Rattle.expr.proofs.DueLaws.{Going}
 use Rattle.expr.proofs.span.Given as goal
 
 abbrev pub invariant-loop-due : goal.invariant-loop-due

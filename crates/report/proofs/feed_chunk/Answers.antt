@@ -1,8 +1,6 @@
 -- `report::feed_chunk` meets its contract. The measure is what is left of the chunk. Assumes nothing.
-use Prim.Native.Nat.{◌-◌}
-use lib.ListN.{length}
 use borrow.Author.Rules.{rules}
-use Rattle.report.proofs.ReadingLaws.{Feeding, feeding_first, chunk_stopped, feeding_done, used_fits, less_left, feeding_on}
+use Rattle.report.proofs.ReadingLaws.{feeding_first, chunk_stopped, feeding_done, used_fits, less_left, feeding_on}
 use Rattle.report.proofs.feed_chunk.Goals as goal
 
 ruleset laws = (rules, feeding_first, chunk_stopped, feeding_done, used_fits, less_left, feeding_on)

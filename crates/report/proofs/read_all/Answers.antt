@@ -1,6 +1,6 @@
 -- `report::read_all` meets its contract. The measure is the turns that are left. Assumes nothing.
 use borrow.Author.Rules.{rules}
-use Rattle.report.proofs.ReadingLaws.{Going, going_first, going_done, going_on}
+use Rattle.report.proofs.ReadingLaws.{going_first, going_done, going_on}
 use Rattle.report.proofs.read_all.Goals as goal
 
 ruleset laws = (rules, going_first, going_done, going_on)

@@ -1,6 +1,5 @@
 -- `report::read_all` meets its contract. The measure is the turns that are left. Assumes nothing.
-use borrow.Author.Rules.{rules}
-use Rattle.report.proofs.ReadingLaws.{Going, going_first, going_done, going_on}
+use Rattle.report.proofs.ReadingLaws.{Going}
 use Rattle.report.proofs.read_all.Given as goal
 
 abbrev pub invariant-loop-turns : goal.invariant-loop-turns

@@ -1,7 +1,5 @@
 -- `report_lines::feed_lines` meets its contract. The measure is what is left of the chunk. Assumes nothing.
-use Prim.Native.Nat.{◌-◌}
-use lib.ListN.{length}
-use Rattle.report_lines.proofs.FeedLaws.{Feeding, feeding, more_fed}
+use Rattle.report_lines.proofs.FeedLaws.{feeding}
 use Rattle.arith.specs.NeedLaws.{basics}
 use Rattle.report_lines.proofs.feed_lines.Goals as goal
 

@@ -1,8 +1,7 @@
 -- `report_lines::feed_lines` meets its contract. The measure is what is left of the chunk. Assumes nothing.
 use Prim.Native.Nat.{◌-◌}
 use lib.ListN.{length}
-use Rattle.report_lines.proofs.FeedLaws.{Feeding, feeding, more_fed}
-use Rattle.arith.specs.NeedLaws.{basics}
+use Rattle.report_lines.proofs.FeedLaws.{Feeding}
 use Rattle.report_lines.proofs.feed_lines.Given as goal
 
 abbrev pub invariant-loop-at : goal.invariant-loop-at

@@ -1,9 +1,7 @@
 -- `atom_simplifier::chain::clear` meets its contract. The measure is the words that are left. Assumes nothing.
 use Prim.Native.Nat.{◌-◌}
 use lib.ListN.{length, replicate}
-use Rattle.arith.specs.NeedLaws.{basics}
-use Rattle.atom_simplifier.proofs.InPlaceLaws.{clearing}
-use Rattle.atom_simplifier.proofs.WriteLaws.{Copied, copied_long}
+use Rattle.atom_simplifier.proofs.WriteLaws.{Copied}
 use Rattle.atom_simplifier.proofs.chain.clear.Given as goal
 
 abbrev pub invariant-loop-i : goal.invariant-loop-i

@@ -1,9 +1,7 @@
 -- `atom_simplifier::write::move_down` meets its contract. The measure is the words that are left. Assumes nothing.
-use Prim.Native.Nat.{◌+◌, ◌-◌}
 use Rattle.arith.specs.NeedLaws.{basics}
-use Rattle.expr.specs.Parts.{part}
 use Rattle.atom_simplifier.proofs.InPlaceLaws.{moving}
-use Rattle.atom_simplifier.proofs.WriteLaws.{Copied, copied_long}
+use Rattle.atom_simplifier.proofs.WriteLaws.{copied_long}
 use Rattle.atom_simplifier.proofs.write.move_down.Goals as goal
 
 ruleset laws = (basics, moving, copied_long)

@@ -1,7 +1,5 @@
 -- `report_lines::line::conditions` meets its contract. The measure is the number of words left. Assumes nothing.
-use Prim.Native.Nat.{◌-◌}
-use lib.ListN.{length}
-use Rattle.report_lines.proofs.ConditionsLaws.{Finding, finding}
+use Rattle.report_lines.proofs.ConditionsLaws.{finding}
 use Rattle.arith.specs.NeedLaws.{basics}
 use Rattle.report_lines.proofs.line.conditions.Goals as goal
 

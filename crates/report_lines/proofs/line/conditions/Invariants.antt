@@ -1,8 +1,7 @@
 -- `report_lines::line::conditions` meets its contract. The measure is the number of words left. Assumes nothing.
 use Prim.Native.Nat.{◌-◌}
 use lib.ListN.{length}
-use Rattle.report_lines.proofs.ConditionsLaws.{Finding, finding}
-use Rattle.arith.specs.NeedLaws.{basics}
+use Rattle.report_lines.proofs.ConditionsLaws.{Finding}
 use Rattle.report_lines.proofs.line.conditions.Given as goal
 
 abbrev pub invariant-loop-i : goal.invariant-loop-i

@@ -1,8 +1,7 @@
 -- `report_lines::text::put_fields` meets its contract. The measure is the number of fields left. Assumes nothing.
 use Prim.Native.Nat.{◌-◌}
 use lib.ListN.{length}
-use Rattle.report_lines.proofs.TextLaws.{Fielding, all_fields}
-use Rattle.arith.specs.NeedLaws.{basics}
+use Rattle.report_lines.proofs.TextLaws.{Fielding}
 use Rattle.report_lines.proofs.text.put_fields.Given as goal
 
 abbrev pub invariant-loop-i : goal.invariant-loop-i
