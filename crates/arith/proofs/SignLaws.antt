@@ -4,7 +4,7 @@ use native.Mathlib.Nat.{min-le_right, min-le_left, le-min, add-mul-mod_self_righ
 use native.Mathlib.Decide.{dec_le}
 use lib.Pow.{high_ones, split}
 use lib.Bits.{bit_and, bit_or, and_mask, and_comm, and_high, and_block, and_zero_r, or_shifted_r}
-use Rattle.arith.specs.Choice.{if◌then◌else◌}
+use Rattle.std.specs.Prelude.{if◌then◌else◌}
 use Rattle.arith.specs.Arith.{size, bitmask_of, sign_bit_mask_of, sign_extended}
 use Rattle.arith.proofs.MaskLaws.{masked, top_pow}
 

@@ -1,6 +1,5 @@
 -- arith.rs: what its functions answer, on all 64-bit words and all widths, those outside 1 to 64 too. Definitions only.
-use Rattle.std.specs.Prelude.{ℕ, ◌+◌, ◌-◌, ◌*◌, ◌/◌, ◌%◌, ◌^◌, min, nat_lt}
-use Rattle.arith.specs.Choice.{if◌then◌else◌}
+use Rattle.std.specs.Prelude.{ℕ, ◌+◌, ◌-◌, ◌*◌, ◌/◌, ◌%◌, ◌^◌, min, nat_lt, if◌then◌else◌}
 
 -- how many numbers w bits hold; a word has 64 bits, so a larger width counts as 64
 abbrev pub size : ℕ → ℕ

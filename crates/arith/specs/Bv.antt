@@ -1,7 +1,6 @@
 -- SMT-LIB's bit vectors of w bits: the operations of the theory FixedSizeBitVectors, and bvxor of the logic QF_BV. A vector stands for
 -- the number that the theory's bv2nat gives it, which is below 2 ^ w. Definitions only.
-use Rattle.std.specs.Prelude.{ℕ, ◌+◌, ◌-◌, ◌*◌, ◌/◌, ◌%◌, ◌^◌, bit_and, bit_or, bit_xor, nat_lt}
-use Rattle.arith.specs.Choice.{if◌then◌else◌}
+use Rattle.std.specs.Prelude.{ℕ, ◌+◌, ◌-◌, ◌*◌, ◌/◌, ◌%◌, ◌^◌, bit_and, bit_or, bit_xor, nat_lt, if◌then◌else◌}
 
 -- all w bits set
 abbrev pub ones : ℕ → ℕ

@@ -1,7 +1,6 @@
 -- A choice whose test is known, and a test of two parts. Assumes nothing.
-use Rattle.std.specs.Prelude.{◌≡◌, ℕ, Bool, true, false, not, ◌&&◌, T, refl}
+use Rattle.std.specs.Prelude.{◌≡◌, ℕ, Bool, true, false, not, ◌&&◌, T, refl, if◌then◌else◌}
 use Rattle.std.proofs.Common.{arith}
-use Rattle.arith.specs.Choice.{if◌then◌else◌}
 
 module _ {A : Type 0} where
   pub if_yes : (b : Bool) (x y : A) → T b → (if b then x else y) ≡ x

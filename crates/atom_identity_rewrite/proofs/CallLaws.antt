@@ -12,7 +12,7 @@ use lib.Seq.{take_all}
 use mir.Syntax.{w64}
 use mir.Val.{Fits}
 use borrow.Author.Tests.{eq-eqb, ne_eqb, not-true, not-false}
-use Rattle.arith.specs.Choice.{if◌then◌else◌}
+use Rattle.std.specs.Prelude.{if◌then◌else◌}
 use Rattle.expr.specs.declared.refusal.Refusal.{Refusal}
 use Rattle.expr.specs.declared.Counted.{Counted}
 use Rattle.expr.specs.declared.Counted.TheVariants as counted
@@ -159,7 +159,7 @@ module _ (ws : List ℕ) where
   }
 
   module _ (w : ℕ) (t : Expr) (a b c d : Offer) where
-    pub sum_offered : OffersAll ws 4 (to_list (def.match_and_via_not_or_plus_aPlus_one w (flatten_addends t))) a b → OffersAll ws 5 (to_list (def.match_xor_via_ornot_flat w (flatten_addends t))) b c
+    pub sum_offered : OffersAll ws 4 (to_list (def.match_and_via_not_or_plus_a_plus_one w (flatten_addends t))) a b → OffersAll ws 5 (to_list (def.match_xor_via_ornot_flat w (flatten_addends t))) b c
         → OffersList ws (lax_candidates t) c d → OffersList ws (sum_candidates w t) a d
     sum_offered f g h = joined ws _ _ a b d (all_listed ws 4 _ a b f) (joined ws _ _ b c d (all_listed ws 5 _ b c g) h)
 

@@ -6,7 +6,7 @@ use mathlib.Core.Option.{Option, none, some}
 use Prim.Native.Nat.{ℕ}
 use native.Mathlib.Omega.{arith}
 use lib.ListN.{get_or}
-use Rattle.arith.specs.Choice.{if◌then◌else◌}
+use Rattle.std.specs.Prelude.{if◌then◌else◌}
 use Rattle.expr.specs.Expr.{Binary, Add, And, Or, Xor, Expr, binary, binary_number}
 use Rattle.expr.specs.Front.{left_of, right_of}
 use Rattle.rewriting.specs.Optional.{only_if, map, ◌or_else◌}

@@ -7,7 +7,7 @@ use mathlib.Core.Option.{Option, none, some}
 use Prim.Native.Nat.{ℕ, zero, suc, ◌+◌, ◌-◌}
 use native.Mathlib.Omega.{arith}
 use lib.ListN.{length, length-append}
-use Rattle.arith.specs.Choice.{if◌then◌else◌}
+use Rattle.std.specs.Prelude.{if◌then◌else◌}
 use Rattle.expr.specs.Expr.{And, Or, Xor, Expr, binary}
 use Rattle.expr.specs.Front.{left_of, right_of}
 use Rattle.rewriting.specs.Optional.{◌or_else◌, map}

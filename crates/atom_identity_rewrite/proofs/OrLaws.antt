@@ -7,7 +7,7 @@ use Prim.Native.Nat.{ℕ}
 use lib.Dec.{T, eqb, eqb→eq}
 use lib.ListN.{get_or}
 use borrow.Author.Tests.{eq-eqb, ne_eqb, eqb-false}
-use Rattle.arith.specs.Choice.{if◌then◌else◌}
+use Rattle.std.specs.Prelude.{if◌then◌else◌}
 use Rattle.expr.specs.Expr.{Binary, Mul, Or, Expr, binary, binary_number}
 use Rattle.expr.specs.Front.{left_of, right_of}
 use Rattle.rewriting.specs.Optional.{only_if, ◌or_else◌}

@@ -7,7 +7,7 @@ use native.Mathlib.Omega.{arith}
 use Rattle.expr.specs.Expr.{Expr}
 use Rattle.expr.specs.Front.{tree_at}
 use Rattle.rewriting.specs.AtomIdentityRewrite as def
-use Rattle.rewriting.specs.AtomIdentityRewrite.{any_negated, extract, lax_and, lax_xor, each, flatten_addends, match_and_via_not_or_plus_aPlus_one, match_xor_via_ornot_flat}
+use Rattle.rewriting.specs.AtomIdentityRewrite.{any_negated, extract, lax_and, lax_xor, each, flatten_addends, match_and_via_not_or_plus_a_plus_one, match_xor_via_ornot_flat}
 use Rattle.atom_identity_rewrite.specs.declared.addends.Addend.{Addend}
 use Rattle.atom_identity_rewrite.specs.declared.addends.Addends.{Addends}
 use Rattle.atom_identity_rewrite.specs.declared.candidate.Match.{Match}
@@ -104,7 +104,7 @@ module _ (ws : List ℕ) (w : ℕ) (o : Offer) (all : Addends) (f : IsFlat ws al
 
 module _ (ws : List ℕ) (w : ℕ) (all : Addends) (f : IsFlat ws all) where
   -- the answer where the addends are not so many
-  pub and_count : (all.count ≡ 3 → ⊥) → Matched ws matched.None (match_and_via_not_or_plus_aPlus_one w (flatten_addends (tree_at ws)))
+  pub and_count : (all.count ≡ 3 → ⊥) → Matched ws matched.None (match_and_via_not_or_plus_a_plus_one w (flatten_addends (tree_at ws)))
   and_count n = match_none ws _ (and_not_three w (flatten_addends (tree_at ws)) (λ e. n (f.counts ∙ e)))
 
   pub xor_count : (all.count ≡ 4 → ⊥) → Matched ws matched.None (match_xor_via_ornot_flat w (flatten_addends (tree_at ws)))
@@ -118,7 +118,7 @@ module _ (ws : List ℕ) (w : ℕ) (all : Addends) (f : IsFlat ws all) where
       pub three_sorted : ThreeSorted ws s.roles
       three_sorted = record { width = w; addends = flatten_addends (tree_at ws); three = sym f.counts ∙ n; sorted = sorted_4 }
 
-      pub and_answer : (m : Match) → AndOfRoles ws s.roles m → Matched ws m (match_and_via_not_or_plus_aPlus_one w (flatten_addends (tree_at ws)))
+      pub and_answer : (m : Match) → AndOfRoles ws s.roles m → Matched ws m (match_and_via_not_or_plus_a_plus_one w (flatten_addends (tree_at ws)))
       and_answer m h = h.is w (flatten_addends (tree_at ws)) (sym f.counts ∙ n) sorted_4
 
     module _ (e : start ≡ nothing_read 5 w o) (n : all.count ≡ 4) where

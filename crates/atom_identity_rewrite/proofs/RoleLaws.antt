@@ -8,13 +8,13 @@ use native.Mathlib.Omega.{arith}
 use lib.Dec.{eqb}
 use lib.ListN.{length}
 use borrow.Author.Tests.{ne_eqb, eq-eqb}
-use Rattle.arith.specs.Choice.{if◌then◌else◌}
+use Rattle.std.specs.Prelude.{if◌then◌else◌}
 use Rattle.expr.specs.Expr.{And, Expr, binary}
 use Rattle.expr.specs.Front.{left_of, right_of}
 use Rattle.rewriting.specs.Optional.{◌and_then◌, ◌or_else◌, only_if, map}
 use Rattle.rewriting.specs.OptionalLaws.{not_both, Every, every_at, every_or_else, every_map, every_map_on}
 use Rattle.rewriting.specs.AtomIdentityRewrite as def
-use Rattle.rewriting.specs.AtomIdentityRewrite.{beside_not_of, any_negated, extract, only, plus_and_minus, is_there, as_one, as_or, as_minus_two, as_minus_twice_or, match_and_via_not_or_plus_aPlus_one, match_xor_via_ornot_flat}
+use Rattle.rewriting.specs.AtomIdentityRewrite.{beside_not_of, any_negated, extract, only, plus_and_minus, is_there, as_one, as_or, as_minus_two, as_minus_twice_or, match_and_via_not_or_plus_a_plus_one, match_xor_via_ornot_flat}
 use Rattle.atom_identity_rewrite.specs.declared.candidate.Match.{Match}
 use Rattle.atom_identity_rewrite.specs.declared.candidate.Match.TheVariants as matched
 use Rattle.atom_identity_rewrite.specs.declared.reading.Roles.{Roles}
@@ -132,11 +132,11 @@ module _ (w : ℕ) where
   and_of_rest p = extract as_or p.1 and_then and_of_left
 
   and_is : (xs : List def.Addend) {three : Bool} → eqb (length xs) 3 ≡ three → {negated : Bool} → any_negated xs ≡ negated
-      → match_and_via_not_or_plus_aPlus_one w xs ≡ (if not three || negated then none else (extract (as_one w) xs and_then and_of_rest))
-  unfolding match_and_via_not_or_plus_aPlus_one
+      → match_and_via_not_or_plus_a_plus_one w xs ≡ (if not three || negated then none else (extract (as_one w) xs and_then and_of_rest))
+  unfolding match_and_via_not_or_plus_a_plus_one
   and_is xs l n = ap₂ (λ (c d : Bool). if not c || d then none else (extract (as_one w) xs and_then and_of_rest)) l n
 
-  pub and_not_three : (xs : List def.Addend) → (length xs ≡ 3 → ⊥) → match_and_via_not_or_plus_aPlus_one w xs ≡ none
+  pub and_not_three : (xs : List def.Addend) → (length xs ≡ 3 → ⊥) → match_and_via_not_or_plus_a_plus_one w xs ≡ none
   and_not_three xs f = and_is xs (ne_eqb (length xs) 3 f) refl
 
 module _ (ws : List ℕ) (r : Roles) where
@@ -146,7 +146,7 @@ module _ (ws : List ℕ) (r : Roles) where
   module _ (n : r.negated ≡ false) where
     -- the answer for three addends, none of them subtracted
     added_is : (w : ℕ) (xs : List def.Addend) → length xs ≡ 3 → Sorted ws (unit_by 4 w) (or_by 4 w) xs r
-        → match_and_via_not_or_plus_aPlus_one w xs ≡ (extract (as_one w) xs and_then and_of_rest w)
+        → match_and_via_not_or_plus_a_plus_one w xs ≡ (extract (as_one w) xs and_then and_of_rest w)
     added_is w xs l s = and_is w xs (eq-eqb (length xs) 3 l) (sym s.negated_is ∙ n)
 
     pub and_no_unit : r.unit ≡ false → AndOfRoles ws r matched.None
@@ -161,7 +161,7 @@ module _ (ws : List ℕ) (r : Roles) where
         unit_4 : UnitAt ws (unit_by 4 w) (or_by 4 w) xs r s
         unit_4 = unit_at ws (unit_by 4 w) (or_by 4 w) xs r s e
 
-        rest_is : match_and_via_not_or_plus_aPlus_one w xs ≡ and_of_rest w unit_4.found
+        rest_is : match_and_via_not_or_plus_a_plus_one w xs ≡ and_of_rest w unit_4.found
         unfolding unit_by
         rest_is = added_is w xs l s ∙ ap (λ (o : Option (Expr × List def.Addend)). o and_then and_of_rest w) unit_4.is
 

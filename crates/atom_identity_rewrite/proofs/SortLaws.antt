@@ -6,7 +6,7 @@ use mathlib.Core.Option.{Option, none, some}
 use Prim.Native.Nat.{ℕ}
 use lib.Dec.{eqb}
 use borrow.Author.Tests.{ne_eqb, eq-eqb}
-use Rattle.arith.specs.Choice.{if◌then◌else◌}
+use Rattle.std.specs.Prelude.{if◌then◌else◌}
 use Rattle.expr.specs.Expr.{Or, Expr}
 use Rattle.rewriting.specs.Optional.{◌or_else◌, only_if, map}
 use Rattle.rewriting.specs.AtomIdentityRewrite as def

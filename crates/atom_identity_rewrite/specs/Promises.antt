@@ -1,7 +1,6 @@
 -- What this crate's private functions promise one another; no public promise names it. Definitions only.
-use Rattle.std.specs.Prelude.{◌≡◌, ◌⊎◌, Bool, true, false, ◌&&◌, ◌||◌, not, cond, List, [], ◌∷◌, ◌++◌, ℕ, ◌+◌, ◌≤◌, eqb, length, take, get_or}
+use Rattle.std.specs.Prelude.{◌≡◌, ◌⊎◌, Bool, true, false, ◌&&◌, ◌||◌, not, cond, List, [], ◌∷◌, ◌++◌, ℕ, ◌+◌, ◌≤◌, eqb, length, take, get_or, if◌then◌else◌}
 use Rattle.std.proofs.Math.Option.{Option, none, some}
-use Rattle.arith.specs.Choice.{if◌then◌else◌}
 use Rattle.expr.specs.Expr.{Binary, Or, Xor, Expr, binary, binary_number, encode}
 use Rattle.expr.specs.Outcome.{accepted}
 use Rattle.expr.specs.Parts.{part, Laid}
@@ -248,7 +247,7 @@ pub record ThreeSorted (ws : List ℕ) (r : Roles) : Type 0 where
   pub sorted : Sorted ws (unit_by 4 width) (or_by 4 width) addends r
 
 pub record AndOfRoles (ws : List ℕ) (r : Roles) (m : Match) : Type 0 where
-  pub is : (w : ℕ) (xs : List def.Addend) → length xs ≡ 3 → Sorted ws (unit_by 4 w) (or_by 4 w) xs r → Matched ws m (def.match_and_via_not_or_plus_aPlus_one w xs)
+  pub is : (w : ℕ) (xs : List def.Addend) → length xs ≡ 3 → Sorted ws (unit_by 4 w) (or_by 4 w) xs r → Matched ws m (def.match_and_via_not_or_plus_a_plus_one w xs)
 
 -- the roles of four addends, as tag 5 reads them
 pub record FourSorted (ws : List ℕ) (r : Roles) : Type 0 where
@@ -307,7 +306,7 @@ pub record OffersList (ws : List ℕ) (more : List def.Candidate) (before after 
 -- the candidates with tags 4 to 7
 abbrev pub sum_candidates : ℕ → Expr → List def.Candidate
 sum_candidates w t =
-    tagged 4 (def.to_list (def.match_and_via_not_or_plus_aPlus_one w (flatten_addends t)))
+    tagged 4 (def.to_list (def.match_and_via_not_or_plus_a_plus_one w (flatten_addends t)))
     ++ (tagged 5 (def.to_list (def.match_xor_via_ornot_flat w (flatten_addends t)))
     ++ def.lax_candidates t)
 

@@ -9,7 +9,7 @@ ghost use Rattle.expr.specs.Front.{Whole, tree_at};
 ghost use Rattle.expr.specs.Answers.{counted_outcome};
 ghost use Rattle.expr.specs.Lent.{lent_after};
 ghost use Rattle.width.specs.Checked.{checked, with_words};
-ghost use Rattle.rewriting.specs.AtomIdentityRewrite.{to_list, match_xor_and_absorb, match_xor_via_or_minus_and, match_and_via_not_or_minus_not, flatten_addends, match_and_via_not_or_plus_aPlus_one, match_xor_via_ornot_flat, lax_candidates, candidates};
+ghost use Rattle.rewriting.specs.AtomIdentityRewrite.{to_list, match_xor_and_absorb, match_xor_via_or_minus_and, match_and_via_not_or_minus_not, flatten_addends, match_and_via_not_or_plus_a_plus_one, match_xor_via_ornot_flat, lax_candidates, candidates};
 ghost use Rattle.atom_identity_rewrite.specs.Calls.{candidate_at, told, candidate_words};
 ghost use Rattle.atom_identity_rewrite.specs.Answers.{candidate_outcome};
 ghost use Rattle.atom_identity_rewrite.specs.Promises.{IsFlat, OffersAll, OffersList, sum_candidates, Offered, Answers};
@@ -76,7 +76,7 @@ fn offer_or_minus_not(words: &[u64], asked: Offer) -> Offer
 
 fn offer_plus_one(words: &[u64], width: u32, all: Addends, asked: Offer) -> Offer
     requires { IsFlat words.now all × (length words.now ≤ 1024) }
-    ensures { OffersAll words.now 4 (to_list (match_and_via_not_or_plus_aPlus_one width (flatten_addends (tree_at words.now)))) asked result }
+    ensures { OffersAll words.now 4 (to_list (match_and_via_not_or_plus_a_plus_one width (flatten_addends (tree_at words.now)))) asked result }
 {
     let m = matchers::match_and_via_not_or_plus_a_plus_one(words, width, all);
     candidate::with_match(asked, 4, m)

@@ -1,10 +1,9 @@
 // The matchers, each after the Rust's function of its name. A node is named by its place in the lent words, and nothing is written.
-ghost use Rattle.std.specs.Prelude.{◌≡◌, ◌&&◌, ◌||◌, ◌≤◌, length, get_or};
-ghost use Rattle.arith.specs.Choice.{if◌then◌else◌};
+ghost use Rattle.std.specs.Prelude.{◌≡◌, ◌&&◌, ◌||◌, ◌≤◌, length, get_or, if◌then◌else◌};
 ghost use Rattle.expr.specs.Expr.{And, Xor, binary};
 ghost use Rattle.expr.specs.Front.{tree_at, left_of, right_of};
 ghost use Rattle.rewriting.specs.Optional.{map, ◌or_else◌};
-ghost use Rattle.rewriting.specs.AtomIdentityRewrite.{operand_of_not, operand_of_neg, beside_not_of, xor_absorb_one, match_xor_and_absorb, same_unordered_pair, xor_of_or_and, match_xor_via_or_minus_and, and_of_or_not, match_and_via_not_or_minus_not, flatten_addends, match_and_via_not_or_plus_aPlus_one, match_xor_via_ornot_flat, expr_eq, is_not_of, match_binary_add_with_neg, lax_and_of, lax_xor_of, lax_and, lax_xor, each};
+ghost use Rattle.rewriting.specs.AtomIdentityRewrite.{operand_of_not, operand_of_neg, beside_not_of, xor_absorb_one, match_xor_and_absorb, same_unordered_pair, xor_of_or_and, match_xor_via_or_minus_and, and_of_or_not, match_and_via_not_or_minus_not, flatten_addends, match_and_via_not_or_plus_a_plus_one, match_xor_via_ornot_flat, expr_eq, is_not_of, match_binary_add_with_neg, lax_and_of, lax_xor_of, lax_and, lax_xor, each};
 ghost use Rattle.atom_identity_rewrite.specs.Promises.{Standing, part_tree, Held, Matched, OffersAll, SidesAre, PickedOrAnd, PickedKind, IsFlat, ThreeSorted, AndOfRoles, FourSorted, XorOfRoles, xor_of_or_not};
 
 use crate::addends::Addends;
@@ -191,7 +190,7 @@ fn and_beside(words: &[u64], a: Part, or_side: Part) -> Match
 
 pub(crate) fn match_and_via_not_or_plus_a_plus_one(words: &[u64], width: u32, all: Addends) -> Match
     requires { IsFlat words.now all × (length words.now ≤ 1024) }
-    ensures { Matched words.now result (match_and_via_not_or_plus_aPlus_one width (flatten_addends (tree_at words.now))) }
+    ensures { Matched words.now result (match_and_via_not_or_plus_a_plus_one width (flatten_addends (tree_at words.now))) }
 {
     if all.count != 3 {
         return Match::None;

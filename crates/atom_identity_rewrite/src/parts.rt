@@ -1,7 +1,6 @@
 // Subtrees of the lent words, each named by its place, and what the matchers ask of them.
-ghost use Rattle.std.specs.Prelude.{◌≡◌, ◌%◌, ◌^◌, ◌≤◌, eqb, length, get_or};
+ghost use Rattle.std.specs.Prelude.{◌≡◌, ◌%◌, ◌^◌, ◌≤◌, eqb, length, get_or, if◌then◌else◌};
 ghost use Rattle.std.proofs.Math.Option.{none};
-ghost use Rattle.arith.specs.Choice.{if◌then◌else◌};
 ghost use Rattle.expr.specs.Expr.{Or};
 ghost use Rattle.expr.specs.Outcome.{accepted};
 ghost use Rattle.expr.specs.Parse.{arity_of};

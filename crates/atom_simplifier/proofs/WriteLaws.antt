@@ -8,7 +8,7 @@ use lib.ListN.{length, take, drop, get_or, set, length-drop, length-set}
 use lib.Seq.{take_all, length-take-le}
 use borrow.Author.Tests.{ne_eqb}
 use borrow.Rule.Slice.PartMut.{put_mid}
-use Rattle.arith.specs.Choice.{if◌then◌else◌}
+use Rattle.std.specs.Prelude.{if◌then◌else◌}
 use Rattle.expr.specs.Parts.{tail, part, Laid}
 use Rattle.expr.specs.Lent.{over}
 use Rattle.expr.specs.LentLaws.{filled, filled_next, node_put, laid_length, laid_on}

@@ -1,7 +1,6 @@
 -- What the public calls come to, and what the two that write a rewrite leave in the lent places. Definitions only.
-use Rattle.std.specs.Prelude.{List, [], ℕ, ◌+◌, ◌*◌, ltb}
+use Rattle.std.specs.Prelude.{List, [], ℕ, ◌+◌, ◌*◌, ltb, if◌then◌else◌}
 use Rattle.std.proofs.Math.Option.{Option}
-use Rattle.arith.specs.Choice.{if◌then◌else◌}
 use Rattle.expr.specs.Refusals.{refusal}
 use Rattle.expr.specs.Outcome.{Outcome, refused, accepted, mapped, ◌and_then◌}
 use Rattle.expr.specs.Expr.{Expr, nodes}

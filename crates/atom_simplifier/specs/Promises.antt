@@ -1,7 +1,6 @@
 -- What this crate's private functions promise one another; no public promise names it. Definitions only.
-use Rattle.std.specs.Prelude.{◌≡◌, Bool, ◌||◌, List, [], ◌∷◌, ◌++◌, ℕ, ◌+◌, ◌*◌, ◌≤◌, T, eqb, length, drop, get_or, set}
+use Rattle.std.specs.Prelude.{◌≡◌, Bool, ◌||◌, List, [], ◌∷◌, ◌++◌, ℕ, ◌+◌, ◌*◌, ◌≤◌, T, eqb, length, drop, get_or, set, if◌then◌else◌}
 use Rattle.std.proofs.Math.Option.{Option, none, some}
-use Rattle.arith.specs.Choice.{if◌then◌else◌}
 use Rattle.expr.specs.Expr.{Binary, Expr, binary, binary_number, encode}
 use Rattle.expr.specs.Parse.{operands_ok}
 use Rattle.expr.specs.Parts.{tail, part, Laid}

@@ -1,7 +1,6 @@
 -- The laws of outcomes. Assumes nothing.
-use Rattle.std.specs.Prelude.{◌≡◌, refl, Bool, true, false, ℕ}
+use Rattle.std.specs.Prelude.{◌≡◌, refl, Bool, true, false, ℕ, if◌then◌else◌}
 use Rattle.std.proofs.Common.{sym, ap, arith}
-use Rattle.arith.specs.Choice.{if◌then◌else◌}
 use Rattle.expr.specs.declared.refusal.Reason.{Reason}
 use Rattle.expr.specs.Outcome.{Outcome, refused, accepted, mapped, ◌and_then◌}
 

@@ -1,11 +1,10 @@
 -- Words are accepted exactly if they are the words of a valid tree, and then they give that tree. Assumes nothing.
-use Rattle.std.specs.Prelude.{◌≡◌, Bool, true, false, not, ◌&&◌, ℕ, zero, suc, ◌*◌, ◌%◌, ◌≤◌, T, leb, eqb, length}
+use Rattle.std.specs.Prelude.{◌≡◌, Bool, true, false, not, ◌&&◌, ℕ, zero, suc, ◌*◌, ◌%◌, ◌≤◌, T, leb, eqb, length, if◌then◌else◌}
 use Rattle.std.proofs.Math.Path.{refl, sym, ap, ap₂}
 use Rattle.std.proofs.Common.{◌∙◌, subst, pos_of_ne-zero, arith, leb→le}
 use mathlib.Core.List.{List, [], ◌∷◌, ◌++◌, append_assoc, append-nil}
 use Rattle.std.proofs.Math.Facts.{and_yes, yes_and, yes_leb, yes_eqb, no_eqb}
 use Rattle.std.proofs.lemmas.Bool.{eqb-false}
-use Rattle.arith.specs.Choice.{if◌then◌else◌}
 use Rattle.arith.specs.ChoiceLaws.{if_yes, if_no}
 use Rattle.expr.specs.Refusals.{refusal}
 use Rattle.expr.specs.Outcome.{Outcome, refused, accepted, ◌and_then◌}

@@ -1,7 +1,6 @@
 -- Every refusal has a number of its own: a promise that goes by reasons fixes which refusal is answered. Assumes nothing.
-use Rattle.std.specs.Prelude.{◌≡◌, refl, eqb}
+use Rattle.std.specs.Prelude.{◌≡◌, refl, eqb, if◌then◌else◌}
 use Rattle.std.proofs.Common.{sym, ap, ◌∙◌}
-use Rattle.arith.specs.Choice.{if◌then◌else◌}
 use Rattle.expr.specs.declared.refusal.Reason.{Reason}
 use Rattle.expr.specs.declared.refusal.Refusal.{Refusal}
 use Rattle.expr.specs.declared.refusal.Refusal.TheVariants.{WidthOutOfRange, WordCount, UnknownKind, OperandOutOfRange, TooDeep, WordsEnd, WordsLeftOver, NotUniform, OutputTooSmall, UnsupportedWidth, WidthMismatch, NarrowingExtension, WideningTruncation, NoFrame, NoWord}

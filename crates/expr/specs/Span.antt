@@ -1,6 +1,5 @@
 -- The length of the first subtree in words. Definitions only.
-use Rattle.std.specs.Prelude.{List, [], ◌∷◌, ℕ, zero, suc, ◌+◌, length}
-use Rattle.arith.specs.Choice.{if◌then◌else◌}
+use Rattle.std.specs.Prelude.{List, [], ◌∷◌, ℕ, zero, suc, ◌+◌, length, if◌then◌else◌}
 use Rattle.expr.specs.Refusals.{refusal}
 use Rattle.expr.specs.Outcome.{Outcome, refused, accepted, mapped, ◌and_then◌}
 use Rattle.expr.specs.Parse.{arity_of, word_count_ok}

@@ -1,9 +1,8 @@
 -- In a list of whole nodes, at most 512, `span_of` is the length of the tree that stands in front, and refuses with 6 or 3 where
 -- `parse` does. Assumes nothing.
-use Rattle.std.specs.Prelude.{◌≡◌, refl, ◌⊎◌, Bool, true, false, not, List, [], ◌∷◌, ◌++◌, ℕ, zero, suc, ◌+◌, ◌*◌, ◌/◌, ◌%◌, ◌≤◌, T, eqb, length, drop}
+use Rattle.std.specs.Prelude.{◌≡◌, refl, ◌⊎◌, Bool, true, false, not, List, [], ◌∷◌, ◌++◌, ℕ, zero, suc, ◌+◌, ◌*◌, ◌/◌, ◌%◌, ◌≤◌, T, eqb, length, drop, if◌then◌else◌}
 use Rattle.std.proofs.Common.{sym, subst, ◌∙◌, ⊎_elim, append_assoc, arith, length-append}
 use Rattle.std.proofs.Math.Path.{ap}
-use Rattle.arith.specs.Choice.{if◌then◌else◌}
 use Rattle.arith.specs.ChoiceLaws.{if_yes}
 use Rattle.expr.specs.declared.refusal.Reason.{Reason}
 use Rattle.expr.specs.declared.refusal.Refusal.{Refusal}

@@ -9,7 +9,7 @@ use lib.ListN.{length, get_or, length-append}
 use borrow.Author.Tests.{eq-eqb, ne_eqb}
 use mir.Syntax.{w32}
 use mir.Val.{Fits, bool_byte}
-use Rattle.arith.specs.Choice.{if◌then◌else◌}
+use Rattle.std.specs.Prelude.{if◌then◌else◌}
 use Rattle.expr.specs.Expr.{Leaf, Constant, Variable, Unary, Binary, Add, Mul, And, Or, Xor, Concat, Expr, leaf, unary, binary, leaf_number, binary_number, encode, nodes, depth}
 use Rattle.expr.specs.ExprLaws.{depth_nodes, length_encode}
 use Rattle.expr.specs.ExprUtils.{has_var_dep_of}

@@ -1,6 +1,5 @@
 -- expr_cost.rs: the cost of a tree, and which of two costs is better. Definitions only.
-use Rattle.std.specs.Prelude.{Bool, false, ◌&&◌, ◌||◌, ℕ, ◌+◌, ltb, eqb}
-use Rattle.arith.specs.Choice.{if◌then◌else◌}
+use Rattle.std.specs.Prelude.{Bool, false, ◌&&◌, ◌||◌, ℕ, ◌+◌, ltb, eqb, if◌then◌else◌}
 use Rattle.expr.specs.Expr.{Binary, Add, Mul, And, Or, Xor, Concat, Expr, leaf, unary, binary, depth}
 use Rattle.expr.specs.ExprUtils.{has_var_dep_of}
 use Rattle.expr_cost.specs.declared.ExprCost.{ExprCost}

@@ -1,7 +1,6 @@
 -- What a cost can come to, and that 'better' is an order. Assumes nothing.
-use Rattle.std.specs.Prelude.{◌≡◌, refl, Bool, true, false, ◌&&◌, ◌||◌, ◌⊎◌, ℕ, ◌+◌, ◌*◌, ◌≤◌, ◌<◌, ltb, eqb}
+use Rattle.std.specs.Prelude.{◌≡◌, refl, Bool, true, false, ◌&&◌, ◌||◌, ◌⊎◌, ℕ, ◌+◌, ◌*◌, ◌≤◌, ◌<◌, ltb, eqb, if◌then◌else◌}
 use Rattle.std.proofs.Common.{inl, inr, ⊎_elim, arith, mul-add, le_refl, ltb-true, eqb-true, lt-ltb, le-ltb, eq-eqb}
-use Rattle.arith.specs.Choice.{if◌then◌else◌}
 use Rattle.expr.specs.Expr.{Expr, leaf, unary, binary, nodes}
 use Rattle.expr_cost.specs.declared.ExprCost.{ExprCost}
 use Rattle.expr_cost.specs.ExprCost.{is_nonlinear, own_weight, weighted_size_of, nonlinear_mul_count_of, is_better}

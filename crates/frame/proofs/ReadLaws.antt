@@ -11,7 +11,7 @@ use lib.Seq.{take-suc, take_all, take_at}
 use mir.Syntax.{w32, w64}
 use mir.Val.{Fits}
 use borrow.Author.Tests.{lt-ltb, le-ltb, eq-eqb, ne_eqb}
-use Rattle.arith.specs.Choice.{if◌then◌else◌}
+use Rattle.std.specs.Prelude.{if◌then◌else◌}
 use Rattle.expr.specs.declared.refusal.Refusal.{Refusal}
 use Rattle.expr.specs.declared.refusal.Refusal.TheVariants.{OutputTooSmall, NoFrame}
 use Rattle.expr.specs.declared.Counted.{Counted}

@@ -1,9 +1,8 @@
 -- The laws of frames: what is written is read back, and what is read is written back. Assumes nothing.
-use Rattle.std.specs.Prelude.{◌≡◌, refl, Bool, true, false, ◌&&◌, List, [], ◌∷◌, ◌++◌, ℕ, zero, suc, ◌+◌, ◌*◌, ◌/◌, ◌%◌, ◌^◌, ◌≤◌, ◌<◌, leb, ltb, eqb, length, take, drop, get_or}
+use Rattle.std.specs.Prelude.{◌≡◌, refl, Bool, true, false, ◌&&◌, List, [], ◌∷◌, ◌++◌, ℕ, zero, suc, ◌+◌, ◌*◌, ◌/◌, ◌%◌, ◌^◌, ◌≤◌, ◌<◌, leb, ltb, eqb, length, take, drop, get_or, if◌then◌else◌}
 use Rattle.std.proofs.Common.{sym, ap, ap₂, subst, ◌∙◌, append_assoc, append-nil, zero-add, suc-add, one-add, arith, length-append, length-drop, take-append-drop, take_at, drop_at, take_all, length-take-le, get_or-append-add, lt-ltb, le-ltb, le-leb, eq-eqb, ltb-true, leb-true, leb-false, eqb-true}
 use Rattle.std.proofs.Math.ListN.{get_or-append}
 use Rattle.std.proofs.lemmas.Bool.{lt-leb}
-use Rattle.arith.specs.Choice.{if◌then◌else◌}
 use Rattle.arith.specs.ChoiceLaws.{both_true}
 use Rattle.expr.specs.Refusals.{refusal}
 use Rattle.expr.specs.Outcome.{refused, accepted, ◌and_then◌}

@@ -1,6 +1,5 @@
 -- Numbers as lower-case hexadecimal digits, on lists of bytes. Definitions only.
-use Rattle.std.specs.Prelude.{Bool, true, ◌&&◌, List, [], ◌∷◌, ◌++◌, ℕ, zero, suc, ◌+◌, ◌-◌, ◌*◌, ◌/◌, ◌%◌, ltb}
-use Rattle.arith.specs.Choice.{if◌then◌else◌}
+use Rattle.std.specs.Prelude.{Bool, true, ◌&&◌, List, [], ◌∷◌, ◌++◌, ℕ, zero, suc, ◌+◌, ◌-◌, ◌*◌, ◌/◌, ◌%◌, ltb, if◌then◌else◌}
 
 -- the byte of a digit below 16: in hexadecimal 30 to 39 for 0 to 9, 61 to 66 for a to f
 abbrev pub glyph_of : ℕ → ℕ

@@ -1,8 +1,7 @@
 -- The laws of digits: how many there are, what they stand for, and that each way back gives what was there. Assumes nothing.
-use Rattle.std.specs.Prelude.{◌≡◌, refl, Bool, true, false, ◌&&◌, List, [], ◌∷◌, ◌++◌, ℕ, zero, suc, ◌+◌, ◌-◌, ◌*◌, ◌/◌, ◌%◌, ◌^◌, ◌≤◌, ◌<◌, ltb, length, take, drop}
+use Rattle.std.specs.Prelude.{◌≡◌, refl, Bool, true, false, ◌&&◌, List, [], ◌∷◌, ◌++◌, ℕ, zero, suc, ◌+◌, ◌-◌, ◌*◌, ◌/◌, ◌%◌, ◌^◌, ◌≤◌, ◌<◌, ltb, length, take, drop, if◌then◌else◌}
 use Rattle.std.proofs.Common.{sym, ap, ap₂, ◌∙◌, append_assoc, append-nil, pow-suc, add-zero, mod-eq_of_lt, arith, length-append, take-append-drop, lt-ltb, le-ltb, ltb-true, ltb-false}
 use Rattle.std.proofs.Math.Nat.{pow-le-pow_right}
-use Rattle.arith.specs.Choice.{if◌then◌else◌}
 use Rattle.arith.specs.ChoiceLaws.{both_true}
 use Rattle.hexadecimal.specs.Hex.{glyph_of, digit_of, digits, all_digits, number_from, number_of, places_from}
 

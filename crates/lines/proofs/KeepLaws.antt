@@ -9,7 +9,7 @@ use lib.Dec.{eqb}
 use lib.ListN.{length, take, drop, get_or, set, length-take, length-drop, length-set, take-append-drop, drop_of_length-le}
 use lib.Seq.{take-suc, take_all, length-take-le, drop-drop, drop-cons, paste, paste-zero, paste-suc, length_paste_head, take-take, take-append-add}
 use borrow.Author.Tests.{eq-eqb, ne_eqb}
-use Rattle.arith.specs.Choice.{if◌then◌else◌}
+use Rattle.std.specs.Prelude.{if◌then◌else◌}
 use Rattle.expr.specs.Parts.{part}
 use Rattle.expr.specs.Lent.{over}
 use Rattle.lines.specs.Lines.{up_to, has_end, used_of, kept}

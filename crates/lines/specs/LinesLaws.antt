@@ -1,9 +1,8 @@
 -- What a chunk does to the lines, and how much of a line need be kept. Assumes nothing.
-use Rattle.std.specs.Prelude.{◌≡◌, refl, Bool, true, false, cond, ℕ, zero, suc, ◌+◌, ◌≤◌, ◌<◌, eqb, length, take, drop}
+use Rattle.std.specs.Prelude.{◌≡◌, refl, Bool, true, false, cond, ℕ, zero, suc, ◌+◌, ◌≤◌, ◌<◌, eqb, length, take, drop, if◌then◌else◌}
 use Rattle.std.proofs.Common.{sym, ◌∙◌, arith}
 use Rattle.std.proofs.Math.Path.{ap}
 use mathlib.Core.List.{List, [], ◌∷◌, ◌++◌, map, append_assoc, append-nil}
-use Rattle.arith.specs.Choice.{if◌then◌else◌}
 use Rattle.lines.specs.Lines.{last_line, lines_from, lines_of, up_to, has_end, used_of}
 
 cases : {P : Type 0} (t : Bool) → (t ≡ true → P) → (t ≡ false → P) → P

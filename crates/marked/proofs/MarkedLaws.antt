@@ -19,7 +19,7 @@ use Rattle.rewriting.specs.Chain.{trees_from, trees_of}
 use Rattle.rewriting.specs.ChainLaws.{◌is_among◌, first, later}
 use Rattle.rewriting.specs.AtomSimplifier.{same_part, are_complements, contains_operand, constant_arms, arms, reassociate_constant, try_fold_binary, not_rewrite, unary_rewrite, unless_same, fold_rewrite, binary_rewrite, local_rewrite, first_rewrite}
 use Rattle.rewriting.specs.AtomSimplifier.{is_not_of as is_not_of_part}
-use Rattle.rewriting.specs.AtomIdentityRewrite.{expr_eq, operands_of, operand_of_not, operand_of_neg, is_not_of, beside_not_of, match_binary_add_with_neg, xor_absorb_one, match_xor_and_absorb, same_unordered_pair, xor_of_or_and, match_xor_via_or_minus_and, and_of_or_not, match_and_via_not_or_minus_not, push_addend, any_negated, extract, only, plus_and_minus, is_constant_node, or_in_product, is_masked, match_and_via_not_or_plus_aPlus_one, match_xor_via_ornot_flat, lax_and, lax_xor, each, is_add, tagged, lax_candidates, candidates}
+use Rattle.rewriting.specs.AtomIdentityRewrite.{expr_eq, operands_of, operand_of_not, operand_of_neg, is_not_of, beside_not_of, match_binary_add_with_neg, xor_absorb_one, match_xor_and_absorb, same_unordered_pair, xor_of_or_and, match_xor_via_or_minus_and, and_of_or_not, match_and_via_not_or_minus_not, push_addend, any_negated, extract, only, plus_and_minus, is_constant_node, or_in_product, is_masked, match_and_via_not_or_plus_a_plus_one, match_xor_via_ornot_flat, lax_and, lax_xor, each, is_add, tagged, lax_candidates, candidates}
 use Rattle.marked.specs.Marked.{Row, words, offered, answer, down_from, table}
 
 -- ---- the test
@@ -49,7 +49,7 @@ holds r = every (holds_at r) r.widths
 
 -- every row holds, by computation
 tested : every holds table ≡ true
-unfolding every holds holds_at same_outcome same_lists same_words answer words offered down_from encode depth nodes has_var_dep_of kind_at operand_ok node_kind node subtree word_count_ok parse supported ranged checked_width_of is_uniform_width checked weighted_size_of nonlinear_mul_count_of compute_cost value is_lent one_width_of value_at and_ors_of D trees_from trees_of same_part are_complements contains_operand constant_arms arms reassociate_constant try_fold_binary not_rewrite unary_rewrite unless_same fold_rewrite binary_rewrite local_rewrite first_rewrite is_not_of_part expr_eq operands_of operand_of_not operand_of_neg is_not_of beside_not_of match_binary_add_with_neg xor_absorb_one match_xor_and_absorb same_unordered_pair xor_of_or_and match_xor_via_or_minus_and and_of_or_not match_and_via_not_or_minus_not push_addend any_negated extract only plus_and_minus is_constant_node or_in_product is_masked match_and_via_not_or_plus_aPlus_one match_xor_via_ornot_flat lax_and lax_xor each is_add tagged lax_candidates candidates
+unfolding every holds holds_at same_outcome same_lists same_words answer words offered down_from encode depth nodes has_var_dep_of kind_at operand_ok node_kind node subtree word_count_ok parse supported ranged checked_width_of is_uniform_width checked weighted_size_of nonlinear_mul_count_of compute_cost value is_lent one_width_of value_at and_ors_of D trees_from trees_of same_part are_complements contains_operand constant_arms arms reassociate_constant try_fold_binary not_rewrite unary_rewrite unless_same fold_rewrite binary_rewrite local_rewrite first_rewrite is_not_of_part expr_eq operands_of operand_of_not operand_of_neg is_not_of beside_not_of match_binary_add_with_neg xor_absorb_one match_xor_and_absorb same_unordered_pair xor_of_or_and match_xor_via_or_minus_and and_of_or_not match_and_via_not_or_minus_not push_addend any_negated extract only plus_and_minus is_constant_node or_in_product is_masked match_and_via_not_or_plus_a_plus_one match_xor_via_ornot_flat lax_and lax_xor each is_add tagged lax_candidates candidates
 tested = refl
 
 -- ---- from the test to each row

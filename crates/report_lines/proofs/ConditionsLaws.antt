@@ -11,7 +11,7 @@ use mir.Facts.{and_yes}
 use lib.Dec.{T, leb→le}
 use lib.ListN.{length, drop, get_or}
 use borrow.Author.Tests.{ne_eqb, eq-eqb}
-use Rattle.arith.specs.Choice.{if◌then◌else◌}
+use Rattle.std.specs.Prelude.{if◌then◌else◌}
 use Rattle.expr.specs.Expr.{Constant, Variable, Unary, Not, Neg, Shr, ZExt, SExt, Trunc, Binary, Add, Mul, And, Or, Xor, Concat, Expr, leaf, unary, binary, unary_number, unary_operand, binary_number, encode}
 use Rattle.expr.specs.Parse.{operand_ok, operands_ok}
 use Rattle.expr.specs.Front.{Exactly, Whole, tree_at}

@@ -12,7 +12,7 @@ use lib.ListN.{length, drop, get_or, set, length-append, length-set, drop_of_len
 use lib.Seq.{drop-cons, set_at}
 use borrow.Author.Tests.{ltb-true, ltb-false, lt-ltb, le-ltb, ne_eqb}
 use borrow.Rule.Slice.PartMut.{put_mid}
-use Rattle.arith.specs.Choice.{if◌then◌else◌}
+use Rattle.std.specs.Prelude.{if◌then◌else◌}
 use Rattle.expr.specs.Parts.{tail, Laid}
 use Rattle.expr.specs.TailLaws.{length_tail}
 use Rattle.expr.specs.Lent.{over}

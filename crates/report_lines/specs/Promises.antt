@@ -1,7 +1,6 @@
 -- What the private functions promise one another. No public promise names these. Definitions only.
-use Rattle.std.specs.Prelude.{◌≡◌, true, List, [], ◌∷◌, ◌++◌, ℕ, suc, ◌+◌, ◌-◌, ◌*◌, ◌≤◌, ◌<◌, max, eqb, length, take}
+use Rattle.std.specs.Prelude.{◌≡◌, true, List, [], ◌∷◌, ◌++◌, ℕ, suc, ◌+◌, ◌-◌, ◌*◌, ◌≤◌, ◌<◌, max, eqb, length, take, if◌then◌else◌}
 use borrow.Rule.Slice.PartMut.{put_mid}
-use Rattle.arith.specs.Choice.{if◌then◌else◌}
 use Rattle.expr.specs.Refusals.{refusal}
 use Rattle.expr.specs.Outcome.{Outcome, refused, accepted}
 use Rattle.expr.specs.Front.{Whole, tree_at}

@@ -1,6 +1,5 @@
 -- The report: what document 01's program prints, as a function of the bytes of its input. Definitions only.
-use Rattle.std.specs.Prelude.{List, [], ◌∷◌, ◌++◌, map, ℕ, suc, ◌+◌, ◌-◌, ◌*◌, ◌/◌, max, eqb, length, take}
-use Rattle.arith.specs.Choice.{if◌then◌else◌}
+use Rattle.std.specs.Prelude.{List, [], ◌∷◌, ◌++◌, map, ℕ, suc, ◌+◌, ◌-◌, ◌*◌, ◌/◌, max, eqb, length, take, if◌then◌else◌}
 use Rattle.expr.specs.Outcome.{Outcome, refused, accepted, mapped, ◌and_then◌}
 use Rattle.expr.specs.Expr.{Constant, Variable, Expr, leaf, unary, binary, nodes}
 use Rattle.rewriting.specs.Chain.{last_of, trees_of}

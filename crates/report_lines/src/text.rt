@@ -1,6 +1,5 @@
 // Numbers as fields of a line.
-ghost use Rattle.std.specs.Prelude.{◌≡◌, true, ◌*◌, ◌≤◌, ltb, length};
-ghost use Rattle.arith.specs.Choice.{if◌then◌else◌};
+ghost use Rattle.std.specs.Prelude.{◌≡◌, true, ◌*◌, ◌≤◌, ltb, length, if◌then◌else◌};
 ghost use Rattle.expr.specs.Parts.{Laid};
 ghost use Rattle.report_lines.specs.Report.{fields, closing, percentage_of};
 ghost use Rattle.report_lines.specs.Steps.{sound_totals};

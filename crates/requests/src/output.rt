@@ -1,8 +1,7 @@
 // Bytes to standard output, through a buffer. The first of them that wait to be written stand at its front; their number goes from one
 // call to the next. What is written cannot be said in a contract; how many bytes wait can: no more than the buffer has places, once a
 // byte is added.
-ghost use Rattle.std.specs.Prelude.{◌≡◌, ◌≤◌, max, leb, length};
-ghost use Rattle.arith.specs.Choice.{if◌then◌else◌};
+ghost use Rattle.std.specs.Prelude.{◌≡◌, ◌≤◌, max, leb, length, if◌then◌else◌};
 
 use expr::refusal::Refusal;
 

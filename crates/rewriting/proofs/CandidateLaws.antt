@@ -19,7 +19,7 @@ use Rattle.rewriting.specs.Optional.{map, ◌or_else◌}
 use Rattle.rewriting.specs.OptionalLaws.{Every, if_case, every_or_else, every_at, every_on, every_map_on}
 use Rattle.rewriting.specs.AtomSimplifier.{not, same_kind}
 use Rattle.rewriting.specs.Measures.{occurrences}
-use Rattle.rewriting.specs.AtomIdentityRewrite.{operands_of, operand_of_not, is_neg_kind, match_xor_and_absorb, match_xor_via_or_minus_and, match_and_via_not_or_minus_not, Addend, push_addend, flatten_addends, is_constant_node, or_in_product, match_and_via_not_or_plus_aPlus_one, match_xor_via_ornot_flat, to_list, lax_and_of, lax_xor_of, of_operands, lax_and, lax_xor, each, is_add, Candidate, tagged, lax_candidates, candidates}
+use Rattle.rewriting.specs.AtomIdentityRewrite.{operands_of, operand_of_not, is_neg_kind, match_xor_and_absorb, match_xor_via_or_minus_and, match_and_via_not_or_minus_not, Addend, push_addend, flatten_addends, is_constant_node, or_in_product, match_and_via_not_or_plus_a_plus_one, match_xor_via_ornot_flat, to_list, lax_and_of, lax_xor_of, of_operands, lax_and, lax_xor, each, is_add, Candidate, tagged, lax_candidates, candidates}
 use Rattle.rewriting.specs.CandidateClaims.{numbered, keeps_value, is_signed, Claim}
 use Rattle.rewriting.specs.ShapeLaws.{◌⊑◌, as_it_is, child, left, right, both, swapped, in_turn, Less, less_left}
 use Rattle.rewriting.specs.MeasureLaws.{cut_nodes, cut_depth}
@@ -247,7 +247,7 @@ module _ (w : ℕ) (node : Expr) where
       let m₁ = match_xor_and_absorb node in
       let m₂ = match_xor_via_or_minus_and node in
       let m₃ = match_and_via_not_or_minus_not node in
-      let m₄ = match_and_via_not_or_plus_aPlus_one w xs in
+      let m₄ = match_and_via_not_or_plus_a_plus_one w xs in
       let m₅ = match_xor_via_ornot_flat w xs in
       each_append C (tagged 1 (to_list m₁)) _
       (tagged_one 1 (Absorbs node) (λ u h. claim 1 (absorbs_shape h) (λ k σ. absorbs_value w σ h) (λ k. absurd k)) m₁ (found_1 node))

@@ -1,9 +1,8 @@
 -- atom_identity_rewrite.rs: the matchers, and the candidates of a node in their order. Trees are compared word by word, and a constant with a
 -- number under the mask of the width. Definitions only.
-use Rattle.std.specs.Prelude.{Bool, true, false, ◌&&◌, ◌||◌, List, [], ◌∷◌, ◌++◌, ℕ, ◌%◌, ◌^◌, eqb, length}
+use Rattle.std.specs.Prelude.{Bool, true, false, ◌&&◌, ◌||◌, List, [], ◌∷◌, ◌++◌, ℕ, ◌%◌, ◌^◌, eqb, length, if◌then◌else◌}
 use Rattle.std.proofs.Math.Bool as bool
 use Rattle.std.proofs.Math.Option.{Option, none, some}
-use Rattle.arith.specs.Choice.{if◌then◌else◌}
 use Rattle.expr.specs.Expr.{Constant, Variable, Unary, Not, Neg, Shr, ZExt, SExt, Trunc, Binary, Add, Mul, And, Or, Xor, Expr, leaf, unary, binary, encode}
 use Rattle.expr.specs.SameWords.{same_words}
 use Rattle.rewriting.specs.Optional.{only_if, map, ◌and_then◌, ◌or_else◌}
@@ -178,8 +177,8 @@ module _ (w : ℕ) where
   as_one a = only_if (is_masked 1 a.expr) a.expr
 
   -- the matcher, on the addends of a node
-  unfoldable pub match_and_via_not_or_plus_aPlus_one : List Addend → Option Expr
-  match_and_via_not_or_plus_aPlus_one addends =
+  unfoldable pub match_and_via_not_or_plus_a_plus_one : List Addend → Option Expr
+  match_and_via_not_or_plus_a_plus_one addends =
       if bool.not (eqb (length addends) 3) || any_negated addends then none else
       (extract as_one addends and_then λ (one, rest).
       extract as_or rest and_then λ (sides, rest').
@@ -269,7 +268,7 @@ candidates w node =
     tagged 1 (to_list (match_xor_and_absorb node))
     ++ (tagged 2 (to_list (match_xor_via_or_minus_and node))
     ++ (tagged 3 (to_list (match_and_via_not_or_minus_not node))
-    ++ (tagged 4 (to_list (match_and_via_not_or_plus_aPlus_one w (flatten_addends node)))
+    ++ (tagged 4 (to_list (match_and_via_not_or_plus_a_plus_one w (flatten_addends node)))
     ++ (tagged 5 (to_list (match_xor_via_ornot_flat w (flatten_addends node)))
     ++ lax_candidates node))))
 

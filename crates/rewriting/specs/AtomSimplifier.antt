@@ -1,8 +1,7 @@
 -- atom_simplifier.rs: the fold with its helpers, the local rewrite, the first site, each arm in the Rust's order. Definitions only.
-use Rattle.std.specs.Prelude.{Bool, true, false, ◌&&◌, ◌||◌, List, [], ◌∷◌, ℕ, zero, suc, ◌%◌, ◌^◌, eqb}
+use Rattle.std.specs.Prelude.{Bool, true, false, ◌&&◌, ◌||◌, List, [], ◌∷◌, ℕ, zero, suc, ◌%◌, ◌^◌, eqb, if◌then◌else◌}
 use Rattle.std.proofs.Math.Option.{Option, none, some}
 use Rattle.arith.specs.Bv.{ones, bvand, bvor, bvxor}
-use Rattle.arith.specs.Choice.{if◌then◌else◌}
 use Rattle.expr.specs.Expr.{Constant, Variable, Unary, Not, Neg, Shr, ZExt, SExt, Trunc, Binary, Add, Mul, And, Or, Xor, Concat, Expr, leaf, unary, binary, binary_number, encode}
 use Rattle.expr.specs.SameWords.{same_words}
 use Rattle.rewriting.specs.Optional.{only_if, map, ◌and_then◌, ◌or_else◌, ◌otherwise◌, ◌equals_some◌}

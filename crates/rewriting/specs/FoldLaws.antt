@@ -1,9 +1,8 @@
 -- The fold calls itself as the Rust's does; and the one induction by which a property of the fold is proved. Assumes nothing.
-use Rattle.std.specs.Prelude.{◌≡◌, ℕ}
+use Rattle.std.specs.Prelude.{◌≡◌, ℕ, if◌then◌else◌}
 use Rattle.std.proofs.Math.Path.{refl, sym}
 use Rattle.std.proofs.Common.{ap₂, subst}
 use Rattle.std.proofs.Math.Option.{Option, none, some}
-use Rattle.arith.specs.Choice.{if◌then◌else◌}
 use Rattle.expr.specs.Expr.{Binary, Expr, leaf, unary, binary}
 use Rattle.rewriting.specs.Optional.{map, ◌and_then◌, ◌or_else◌, ◌otherwise◌}
 use Rattle.rewriting.specs.OptionalLaws.{Every, if_case, otherwise_case, every_on, every_or_else, every_map, every_and_then}

@@ -1,7 +1,7 @@
 -- The candidates with tags 1, 4 and 5 have the node's value; those with tags 2 and 3 have it where Or is the operand not under Neg, and its
 -- negation elsewhere. The identities are from Hacker's Delight (addition combined with logical operations); `SumLaws` of arith has them for
 -- numbers. As in `ValueKeptLaws` a cast or a Concat counts as 0. Assumes nothing.
-use Rattle.std.specs.Prelude.{◌≡◌, refl, Bool, true, ◌&&◌}
+use Rattle.std.specs.Prelude.{◌≡◌, refl, Bool, true, ◌&&◌, if◌then◌else◌}
 use Rattle.std.proofs.Math.Path.{sym, ap, ap₂, subst}
 use Rattle.std.proofs.Common.{subst₂, ◌∙◌, add-zero, zero-add, add_assoc}
 use Rattle.std.proofs.Math.Bool.{false, not}
@@ -10,7 +10,6 @@ use Prim.Native.Nat.{ℕ, ◌+◌, ◌*◌, ◌%◌, ◌^◌, ◌<◌}
 use native.Mathlib.Omega.{arith}
 use Rattle.std.proofs.Math.Dec.{T, eqb→eq}
 use Rattle.std.proofs.Math.Facts.{and_yes, or_no}
-use Rattle.arith.specs.Choice.{if◌then◌else◌}
 use Rattle.arith.specs.Bv.{bvadd, bvmul, bvor, bvnot, bvneg}
 use Rattle.arith.specs.ChoiceLaws.{if_yes, if_no}
 use Rattle.arith.specs.BvLaws.{xor_and}
@@ -21,7 +20,7 @@ use Rattle.value.specs.Value.{unary_value, binary_value, value}
 use Rattle.value.specs.ValueLaws.{value_lt}
 use Rattle.rewriting.specs.OptionalLaws.{Every, if_case, every_at, every_on}
 use Rattle.rewriting.specs.AtomSimplifier.{same_kind}
-use Rattle.rewriting.specs.AtomIdentityRewrite.{is_neg_kind, match_xor_and_absorb, match_xor_via_or_minus_and, match_and_via_not_or_minus_not, Addend, push_addend, flatten_addends, any_negated, plus_and_minus, is_masked, match_and_via_not_or_plus_aPlus_one, match_xor_via_ornot_flat, or_not_under_neg}
+use Rattle.rewriting.specs.AtomIdentityRewrite.{is_neg_kind, match_xor_and_absorb, match_xor_via_or_minus_and, match_and_via_not_or_minus_not, Addend, push_addend, flatten_addends, any_negated, plus_and_minus, is_masked, match_and_via_not_or_plus_a_plus_one, match_xor_via_ornot_flat, or_not_under_neg}
 use Rattle.rewriting.specs.TestLaws.{same_kind→eq}
 use Rattle.rewriting.specs.MatchLaws.{neg_kind→eq, Absorbs, absorbs, found_1, Minus, or_and, or_not, Differs, or_first, or_second, found_2, found_3, Insert, here, there, product, PlusOne, plus_one, found_4, OrNotFlat, or_not_flat, found_5}
 
@@ -159,8 +158,8 @@ module _ (w : ℕ) (σ : List ℕ) where
       sym (S.plus_one w (value_lt w σ a.expr) (value_lt w σ x) (sum_of false t)
       (omega (arith, sum_insert whole i, sum_insert whole j, masked_value 1 one.expr m, h.same_value w σ)))
 
-  pub tag_4 : (t : Expr) → Every (λ u. value w σ u ≡ value w σ t) (match_and_via_not_or_plus_aPlus_one w (flatten_addends t))
-  tag_4 t = let xs = flatten_addends t in every_on (PlusOne w xs) _ (match_and_via_not_or_plus_aPlus_one w xs) (λ u. plus_one_value t) (found_4 w xs)
+  pub tag_4 : (t : Expr) → Every (λ u. value w σ u ≡ value w σ t) (match_and_via_not_or_plus_a_plus_one w (flatten_addends t))
+  tag_4 t = let xs = flatten_addends t in every_on (PlusOne w xs) _ (match_and_via_not_or_plus_a_plus_one w xs) (λ u. plus_one_value t) (found_4 w xs)
 
   -- ---- tag 5
 

@@ -1,6 +1,6 @@
 -- What a matcher of tags 1 to 5 has found, as a relation of its tree and the candidate: the candidate's value and its shape both follow
 -- from it. Assumes nothing.
-use Rattle.std.specs.Prelude.{◌≡◌, refl, Bool, true, false, ◌&&◌, ◌||◌, ℕ, ◌%◌, ◌^◌, T, eqb, length}
+use Rattle.std.specs.Prelude.{◌≡◌, refl, Bool, true, false, ◌&&◌, ◌||◌, ℕ, ◌%◌, ◌^◌, T, eqb, length, if◌then◌else◌}
 use Rattle.std.proofs.Common.{sym, ap₂, subst, subst₂, ◌∙◌, ⊎_elim, add_comm, mul_comm, mod-lt, arith, pow_pos, ne_eqb}
 use Rattle.std.proofs.Math.Path.{ap}
 use Rattle.std.proofs.Math.Bool as bool
@@ -8,14 +8,13 @@ use mathlib.Core.List.{List, [], ◌∷◌}
 use Rattle.std.proofs.Math.Option.{Option, none, some}
 use Rattle.std.proofs.lemmas.Nat.{and_comm, or_comm, xor_comm}
 use Rattle.std.proofs.Math.Facts.{and_yes, or_yes, or_no}
-use Rattle.arith.specs.Choice.{if◌then◌else◌}
 use Rattle.expr.specs.Expr.{Constant, Variable, Unary, Not, Neg, Shr, ZExt, SExt, Trunc, Binary, Add, Mul, And, Or, Xor, Concat, Expr, leaf, unary, binary, unary_number}
 use Rattle.expr.specs.SameWordsLaws.{same→tree}
 use Rattle.value.specs.Value.{binary_value, value}
 use Rattle.rewriting.specs.Optional.{only_if, map, ◌and_then◌, ◌or_else◌}
 use Rattle.rewriting.specs.OptionalLaws.{then_none, Every, if_case, every_only_if, every_unless, every_or_else, every_at, every_on, every_and_then, every_map_on, every_and_then_on}
 use Rattle.rewriting.specs.AtomSimplifier.{not, is_not_kind, same_kind}
-use Rattle.rewriting.specs.AtomIdentityRewrite.{expr_eq, operands_of, operand_of_not, is_neg_kind, operand_of_neg, is_not_of, beside_not_of, match_binary_add_with_neg, xor_absorb_one, match_xor_and_absorb, same_unordered_pair, xor_of_or_and, match_xor_via_or_minus_and, and_of_or_not, match_and_via_not_or_minus_not, Addend, any_negated, extract, only, plus_and_minus, as_or, or_in_product, is_masked, as_one, match_and_via_not_or_plus_aPlus_one, as_minus_two, as_minus_twice_or, match_xor_via_ornot_flat, is_there, or_not_under_neg}
+use Rattle.rewriting.specs.AtomIdentityRewrite.{expr_eq, operands_of, operand_of_not, is_neg_kind, operand_of_neg, is_not_of, beside_not_of, match_binary_add_with_neg, xor_absorb_one, match_xor_and_absorb, same_unordered_pair, xor_of_or_and, match_xor_via_or_minus_and, and_of_or_not, match_and_via_not_or_minus_not, Addend, any_negated, extract, only, plus_and_minus, as_or, or_in_product, is_masked, as_one, match_and_via_not_or_plus_a_plus_one, as_minus_two, as_minus_twice_or, match_xor_via_ornot_flat, is_there, or_not_under_neg}
 use Rattle.rewriting.specs.TestLaws.{not_kind→eq, same_kind→eq}
 use Rattle.rewriting.specs.ShapeLaws.{◌⊑◌, as_it_is, both, swapped, in_turn}
 
@@ -275,8 +274,8 @@ module _ (w : ℕ) where
       plus_one : {one o a : Addend} {ys : List Addend} {x : Expr} → T (bool.not (any_negated xs)) → T (is_masked w 1 one.expr) → Insert one ys xs
           → o.expr ~ binary Or (not a.expr) x → Insert o (a ∷ []) ys → PlusOne (binary And a.expr x)
 
-    pub found_4 : Every PlusOne (match_and_via_not_or_plus_aPlus_one w xs)
-    unfolding match_and_via_not_or_plus_aPlus_one
+    pub found_4 : Every PlusOne (match_and_via_not_or_plus_a_plus_one w xs)
+    unfolding match_and_via_not_or_plus_a_plus_one
     found_4 =
         every_unless PlusOne (bool.not (eqb (length xs) 3) || any_negated xs) _ (λ n.
         every_and_then_on PlusOne _ (extract (as_one w) xs) _ (took _ (as_one w) (λ b. passed (is_masked w 1 b.expr) b.expr) xs) (λ (one, ys) p.

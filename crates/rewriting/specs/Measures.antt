@@ -1,6 +1,5 @@
 -- What the theorems about rewriting count in a tree. Definitions only.
-use Rattle.std.specs.Prelude.{ℕ, ◌+◌, eqb}
-use Rattle.arith.specs.Choice.{if◌then◌else◌}
+use Rattle.std.specs.Prelude.{ℕ, ◌+◌, eqb, if◌then◌else◌}
 use Rattle.expr.specs.Expr.{Constant, Variable, Unary, Not, Neg, Shr, ZExt, SExt, Trunc, Binary, Add, Mul, And, Or, Xor, Concat, Expr, leaf, unary, binary}
 
 -- an And or an Or counts one

@@ -1,8 +1,7 @@
 -- What holds of every arm of a choice holds of the choice: by these laws a theorem goes through a definition arm by arm. Assumes nothing.
-use Rattle.std.specs.Prelude.{◌≡◌, refl, Bool, true, false, not, T}
+use Rattle.std.specs.Prelude.{◌≡◌, refl, Bool, true, false, not, T, if◌then◌else◌}
 use Rattle.std.proofs.Common.{sym, ap, subst, ◌∙◌}
 use Rattle.std.proofs.Math.Option.{Option, none, some}
-use Rattle.arith.specs.Choice.{if◌then◌else◌}
 use Rattle.rewriting.specs.Optional.{only_if, map, ◌and_then◌, ◌or_else◌, ◌otherwise◌}
 
 -- P of what is there, if anything is

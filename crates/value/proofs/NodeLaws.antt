@@ -10,7 +10,7 @@ use lib.Dec.{eqb}
 use lib.ListN.{length, get_or, get_or-eq_default}
 use lib.Pow.{pow_pos}
 use borrow.Author.Tests.{ne_eqb, lt-ltb, le-ltb}
-use Rattle.arith.specs.Choice.{if◌then◌else◌}
+use Rattle.std.specs.Prelude.{if◌then◌else◌}
 use Rattle.arith.specs.Arith.{mod_add, mod_mul, mod_neg, mod_not, mod_shr, low_bits}
 use Rattle.arith.specs.ArithLaws.{low_is, add_is, mul_is, not_is, neg_is, shr_is}
 use Rattle.arith.specs.Bv.{bvadd, bvmul, bvand, bvor, bvxor, bvnot, bvneg, bvlshr}

@@ -1,6 +1,5 @@
 -- The value of a tree, which document 01 adds to the Rust: SMT-LIB's bit vectors decide it. Definitions only.
-use Rattle.std.specs.Prelude.{Bool, true, ◌&&◌, List, ℕ, ◌%◌, ◌^◌, ltb, length, get_or}
-use Rattle.arith.specs.Choice.{if◌then◌else◌}
+use Rattle.std.specs.Prelude.{Bool, true, ◌&&◌, List, ℕ, ◌%◌, ◌^◌, ltb, length, get_or, if◌then◌else◌}
 use Rattle.arith.specs.Bv.{bvadd, bvmul, bvand, bvor, bvxor, bvnot, bvneg, bvlshr}
 use Rattle.expr.specs.Refusals.{refusal}
 use Rattle.expr.specs.Outcome.{Outcome, refused, accepted, ◌and_then◌}

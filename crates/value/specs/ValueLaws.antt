@@ -1,12 +1,11 @@
 -- A value is a number of w bits; what a tree of one width is. Assumes nothing.
-use Rattle.std.specs.Prelude.{◌≡◌, Bool, true, false, List, ℕ, ◌-◌, ◌/◌, ◌^◌, ◌≤◌, ◌<◌, ltb, get_or}
+use Rattle.std.specs.Prelude.{◌≡◌, Bool, true, false, List, ℕ, ◌-◌, ◌/◌, ◌^◌, ◌≤◌, ◌<◌, ltb, get_or, if◌then◌else◌}
 use Rattle.std.proofs.Common.{sym, ◌∙◌, lt_of_le_of_lt, arith, pow_pos}
 use Rattle.std.proofs.Math.Path.{ap, subst}
 use Rattle.std.proofs.Math.Nat.{mod-lt}
 use Rattle.std.proofs.Math.Pow.{ones_sub-lt}
 use Rattle.std.proofs.lemmas.Nat.{shr_le, or_lt, xor_lt}
 use Rattle.std.specs.Int.Bits.{and_lt}
-use Rattle.arith.specs.Choice.{if◌then◌else◌}
 use Rattle.expr.specs.Refusals.{refusal}
 use Rattle.expr.specs.Outcome.{accepted, ◌and_then◌}
 use Rattle.expr.specs.OutcomeLaws.{same_answer, if_came, then_accepted, then_came}

@@ -1,6 +1,5 @@
 -- Words that are a tree at a supported width, and room for what is written of a tree: what calls check before they answer. Definitions only.
-use Rattle.std.specs.Prelude.{List, ℕ, ◌*◌, ltb}
-use Rattle.arith.specs.Choice.{if◌then◌else◌}
+use Rattle.std.specs.Prelude.{List, ℕ, ◌*◌, ltb, if◌then◌else◌}
 use Rattle.expr.specs.Refusals.{refusal}
 use Rattle.expr.specs.Outcome.{Outcome, refused, accepted}
 use Rattle.expr.specs.Expr.{Expr, nodes}
