@@ -22,7 +22,7 @@ unfoldable pub asked_for : ℕ → List Candidate → Asked Candidate
 asked_for number cs = or_count (length cs) (numbered number cs)
 
 -- `try_match_all`: 1, then 2 to 7, then 9 for an output of so many words below the tree's, then the candidate or 'no more'. What is claimed of
--- the candidate is proved by `claim_at` of crates/rewriting/specs/CandidateLaws.antt: the value for tags 1, 4 and 5, the value or its negation
+-- the candidate is proved by `claim_at` of crates/rewriting/proofs/CandidateLaws.antt: the value for tags 1, 4 and 5, the value or its negation
 -- for tags 2 and 3, no value for tags 6 and 7, and for every tag the nodes, the depth, the refusals and the variables
 unfoldable pub candidate_at : List ℕ → ℕ → ℕ → ℕ → Outcome (Asked Candidate)
 candidate_at ws w number room = mapped (λ t. asked_for number (candidates w t)) (checked w ws and_then with_words room)
