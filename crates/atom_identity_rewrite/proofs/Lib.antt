@@ -3,7 +3,9 @@ pub mod NodeLaws
 pub mod OrLaws
 pub mod MatcherLaws
 pub mod ScanLaws
+pub mod LocalLaws
 pub mod AddendLaws
+pub mod WalkLaws
 pub mod HeldLaws
 pub mod OfferLaws
 pub mod SortLaws

@@ -16,7 +16,7 @@ use Rattle.expr_cost.specs.ExprCost.{weighted_size_of, nonlinear_mul_count_of, c
 use Rattle.value.specs.Value.{value, is_lent, one_width_of, value_at}
 use Rattle.rewriting.specs.Measures.{and_ors_of, D}
 use Rattle.rewriting.specs.Chain.{trees_from, trees_of}
-use Rattle.rewriting.specs.ChainLaws.{◌is_among◌, first, later}
+use Rattle.rewriting.specs.ChainLaws.{◌IsAmong◌, first, later}
 use Rattle.rewriting.specs.AtomSimplifier.{same_part, are_complements, contains_operand, constant_arms, arms, reassociate_constant, try_fold_binary, not_rewrite, unary_rewrite, unless_same, fold_rewrite, binary_rewrite, local_rewrite, first_rewrite}
 use Rattle.rewriting.specs.AtomSimplifier.{is_not_of as is_not_of_part}
 use Rattle.rewriting.specs.AtomIdentityRewrite.{expr_eq, operands_of, operand_of_not, operand_of_neg, is_not_of, beside_not_of, match_binary_add_with_neg, xor_absorb_one, match_xor_and_absorb, same_unordered_pair, xor_of_or_and, match_xor_via_or_minus_and, and_of_or_not, match_and_via_not_or_minus_not, push_addend, any_negated, extract, only, plus_and_minus, is_constant_node, or_in_product, is_masked, match_and_via_not_or_plus_a_plus_one, match_xor_via_ornot_flat, lax_and, lax_xor, each, is_add, tagged, lax_candidates, candidates}
@@ -77,14 +77,14 @@ same_outcome_lem (accepted xs) (refused s) h = absurd h
 same_outcome_lem (accepted xs) (accepted ys) h = ap accepted (same_lists_lem xs ys h)
 
 -- what every element passes, each one passes
-each_one : {A : Type 0} (f : A → Bool) (xs : List A) → T (every f xs) → (a : A) → a is_among xs → T (f a)
+each_one : {A : Type 0} (f : A → Bool) (xs : List A) → T (every f xs) → (a : A) → a IsAmong xs → T (f a)
 unfolding every
 each_one f [] h a i = elim i [ ]
 each_one f (b ∷ xs) h a first = (and_yes (f b) (every f xs) h).0
 each_one f (b ∷ xs) h a (later i) = each_one f xs (and_yes (f b) (every f xs) h).1 a i
 
 -- each row of the table holds at each of its widths: the answer by the definitions is the outcome that the row has
-pub marked : (r : Row) → r is_among table → (w : ℕ) → w is_among r.widths → answer r.question r.tree w ≡ r.outcome
+pub marked : (r : Row) → r IsAmong table → (w : ℕ) → w IsAmong r.widths → answer r.question r.tree w ≡ r.outcome
 unfolding holds holds_at
 marked r i w j =
     let row = each_one holds table (subst T (sym tested) tt) r i in

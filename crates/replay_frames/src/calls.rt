@@ -33,7 +33,7 @@ pub(crate) fn copy_words(
     lent::put_words_written(rt, text, named, words.len(), out)
 }
 
-// ---- hex
+// ---- hexadecimal
 
 fn number(rt: &impl Print, text: &mut [u8], have: usize, bytes: &[u8]) -> usize {
     let parsed = hexadecimal::number(bytes);

@@ -1,4 +1,4 @@
-// Answers the requests to `hex`, `lines` and `frame`, and to the calls of `expr` and `width` that frames share with candidates, on standard
+// Answers the requests to `hexadecimal`, `lines` and `frame`, and to the calls of `expr` and `width` that frames share with candidates, on standard
 // input, one a line (oracle/README.md has their grammar): writes the line, ` = ` and the answer. The line is written too so that a change to
 // either stored list shows. A line that is no request gets `?`, which no stored answer is.
 #![tactic(auto)]

@@ -236,7 +236,7 @@ pub fn feed(
     work: &mut [u64],
     out: &mut [u8],
 ) -> Step
-    ensures { Feeds s chunk.now (record { line = line.entry.now; words = words.old; work = work.old; out = out.old }) result (record { line = line.exit.now; words = words.new; work = work.new; out = out.new }) }
+    ensures { Feeds s chunk.now (record { line = line.old; words = words.old; work = work.old; out = out.old }) result (record { line = line.new; words = words.new; work = work.new; out = out.new }) }
 {
     if !is_ready(s, line.len(), words.len(), work.len(), out.len()) {
         return Step {
@@ -284,7 +284,7 @@ fn finish_lines(s: State, line: &[u8], words: &mut [u64], work: &mut [u64], out:
 
 // At the end of the input: puts what is left of the report at the front of `out`, the closing line last; how many bytes that is.
 pub fn finish(s: State, line: &[u8], words: &mut [u64], work: &mut [u64], out: &mut [u8]) -> usize
-    ensures { Finishes s (record { line = line.entry.now; words = words.old; work = work.old; out = out.old }) result (record { line = line.entry.now; words = words.new; work = work.new; out = out.new }) }
+    ensures { Finishes s (record { line = line.now; words = words.old; work = work.old; out = out.old }) result (record { line = line.now; words = words.new; work = work.new; out = out.new }) }
 {
     if !is_ready(s, line.len(), words.len(), work.len(), out.len()) {
         return 0;

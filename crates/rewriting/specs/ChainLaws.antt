@@ -22,11 +22,11 @@ use Rattle.rewriting.specs.KeptLaws.{first_keeps, first_variables, first_uniform
 use Rattle.rewriting.specs.EndLaws.{Ends, ends_exist}
 use Rattle.rewriting.specs.NodesLaws.{ends_nodes}
 
-infix 4 ◌is_among◌
+infix 4 ◌IsAmong◌
 -- the element is one of the list
-pub data ◌is_among◌ {A : Type 0} : A → List A → Type 0 where
-  first : {a : A} {xs : List A} → a is_among (a ∷ xs)
-  later : {a b : A} {xs : List A} → a is_among xs → a is_among (b ∷ xs)
+pub data ◌IsAmong◌ {A : Type 0} : A → List A → Type 0 where
+  first : {a : A} {xs : List A} → a IsAmong (a ∷ xs)
+  later : {a b : A} {xs : List A} → a IsAmong xs → a IsAmong (b ∷ xs)
 
 module _ (w : ℕ) where
   -- ---- the list, its end and its count
@@ -122,7 +122,7 @@ module _ (w : ℕ) where
     on : (t s u : Expr) → first_rewrite w t ≡ some s → R s u → R t u
 
   module _ {R : Expr → Expr → Type 0} (p : Lasts R) where
-    at_each : {t u : Expr} {trees : List Expr} → Listed w t trees → u is_among trees → R t u
+    at_each : {t u : Expr} {trees : List Expr} → Listed w t trees → u IsAmong trees → R t u
     at_each (Listed.done {t} e) first = p.start t
     at_each (Listed.done e) (later m) = elim m [ ]
     at_each (Listed.more {t} e r) first = p.start t
@@ -158,25 +158,25 @@ module _ (w : ℕ) where
   lent_lasts σ = kept_lasts (is_lent σ) (λ t s e. first_lent w t s e σ)
 
   module _ {t s : Expr} {trees : List Expr} where
-    pub listed_room : Listed w t trees → s is_among trees → nodes s ≤ nodes t + D t
+    pub listed_room : Listed w t trees → s IsAmong trees → nodes s ≤ nodes t + D t
     listed_room l m = omega (arith, at_each room_lasts l m)
 
-    pub listed_depth : Listed w t trees → s is_among trees → depth s ≤ depth t
+    pub listed_depth : Listed w t trees → s IsAmong trees → depth s ≤ depth t
     listed_depth = at_each depth_lasts
 
-    pub listed_value : (σ : List ℕ) → Listed w t trees → s is_among trees → value w σ s ≡ value w σ t
+    pub listed_value : (σ : List ℕ) → Listed w t trees → s IsAmong trees → value w σ s ≡ value w σ t
     listed_value σ = at_each (value_lasts σ)
 
-    pub listed_uniform : (widths : List ℕ) (v : ℕ) → Listed w t trees → s is_among trees → is_uniform_width widths v t ≡ true → is_uniform_width widths v s ≡ true
+    pub listed_uniform : (widths : List ℕ) (v : ℕ) → Listed w t trees → s IsAmong trees → is_uniform_width widths v t ≡ true → is_uniform_width widths v s ≡ true
     listed_uniform widths v = at_each (uniform_lasts widths v)
 
-    pub listed_operands : Listed w t trees → s is_among trees → operands_ok t ≡ true → operands_ok s ≡ true
+    pub listed_operands : Listed w t trees → s IsAmong trees → operands_ok t ≡ true → operands_ok s ≡ true
     listed_operands = at_each operands_last
 
-    pub listed_lent : (σ : List ℕ) → Listed w t trees → s is_among trees → is_lent σ t ≡ true → is_lent σ s ≡ true
+    pub listed_lent : (σ : List ℕ) → Listed w t trees → s IsAmong trees → is_lent σ t ≡ true → is_lent σ s ≡ true
     listed_lent σ = at_each (lent_lasts σ)
 
-    pub listed_variables : Listed w t trees → s is_among trees → (i : ℕ) → occurrences i s ≤ occurrences i t
+    pub listed_variables : Listed w t trees → s IsAmong trees → (i : ℕ) → occurrences i s ≤ occurrences i t
     listed_variables = at_each variables_last
 
   -- ---- the end tree

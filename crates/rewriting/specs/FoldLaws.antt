@@ -27,7 +27,7 @@ module _ (w : ℕ) where
       go none (some c) = refl
       go (some u) c = refl
 
-  -- so `reassociate_constant` calls the fold where `reassociate_constant` does
+  -- so the definition calls the fold where the Rust's `reassociate_constant` does
   pub reassociate_is : (op : Bitwise) (k : Binary) (l r : Expr) (c : ℕ)
       → reassociate_constant w op (binary k l r) c
       ≡ (if same_kind k (kind_of op) then
