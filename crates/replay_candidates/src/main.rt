@@ -4,7 +4,7 @@
 #![tactic(auto)]
 
 use requests::input::read_full;
-use requests::output::{flush, put, write};
+use requests::output::{flush, put};
 use requests::text::find;
 
 mod answer;
@@ -30,7 +30,7 @@ fn replay(rt: &impl Print, input: &[u8]) {
     }
     flush(rt, &out, have);
     if at < input.len() {
-        write(rt, b"?\n");
+        let _ = rt.write_all(b"?\n");
     }
 }
 
@@ -38,7 +38,7 @@ fn main(rt: HostRuntime) {
     let mut input = requests::input_buffer();
     let n = read_full(&mut rt.stdin(), &mut input);
     if n == input.len() {
-        write(&rt, b"input too long\n");
+        let _ = rt.write_all(b"input too long\n");
         return;
     }
     replay(&rt, &input[..n]);

@@ -6,7 +6,7 @@ ghost use Rattle.std.specs.Prelude.{◌≡◌, ◌≤◌, max, leb, length, if�
 use expr::refusal::Refusal;
 
 // All bytes to standard output. Where writing fails, what is left of them is passed over.
-pub fn write(rt: &impl Print, bytes: &[u8]) {
+fn write(rt: &impl Print, bytes: &[u8]) {
     let _ = rt.write_all(bytes);
 }
 
