@@ -1,3 +1,2 @@
 pub mod MaskLaws
-pub mod ProductLaws
 pub mod SignLaws

@@ -1,17 +1,14 @@
 -- Masks of a width, and the words that are masked. Assumes nothing.
-use Rattle.std.proofs.Common.{◌≡◌, ℕ, suc, ◌+◌, ◌-◌, ◌*◌, ◌/◌, ◌%◌, ◌^◌, ◌<◌, ◌≤◌, min, sym, ap, ◌∙◌, lt_of_lt_of_le, le_of_lt, mod-eq_of_lt, pos_of_ne-zero, one-mul, pow-suc, zero-add, sub-add_cancel, mul-div_cancel, arith, pow_pos, pow_mono, w64, Fits}
-use native.Mathlib.Nat.{min-le_right, min-eq_left, min-eq_right, div-eq_of_lt, zero-mod}
+use Rattle.std.proofs.Common.{◌≡◌, ℕ, suc, ◌-◌, ◌*◌, ◌/◌, ◌%◌, ◌^◌, ◌<◌, ◌≤◌, min, sym, ap, ◌∙◌, lt_of_lt_of_le, le_of_lt, mod-eq_of_lt, pos_of_ne-zero, one-mul, pow-suc, sub-add_cancel, mul-div_cancel, arith, pow_pos, pow_mono, w64, Fits}
+use native.Mathlib.Nat.{min-le_right, min-eq_left, div-eq_of_lt, zero-mod}
 use lib.Pow.{pow-lt, mod-mod-pow}
 use lib.Bits.{bit_and, and_mask}
-use Rattle.arith.specs.Arith.{size, bitmask_of, sign_bit_mask_of, mod_sub, mod_neg, mod_shr}
+use Rattle.arith.specs.Arith.{size, bitmask_of, sign_bit_mask_of, mod_shr}
 
 -- ---- the size of a width
 
 size_low : (w : ℕ) → w ≤ 64 → size w ≡ 2 ^ w
 size_low w h = ap (λ (k : ℕ). 2 ^ k) (min-eq_left h)
-
-size_high : (w : ℕ) → 64 ≤ w → size w ≡ 2 ^ 64
-size_high w h = ap (λ (k : ℕ). 2 ^ k) (min-eq_right h)
 
 -- `1 << k`
 shl_one : (k : ℕ) → k < 64 → (1 * 2 ^ k) % 2 ^ 64 ≡ 2 ^ k
@@ -23,31 +20,10 @@ top_pow k h =
     sym (ap (λ (n : ℕ). 2 ^ n / 2) (let e : k ≡ suc (k - 1) = omega arith in e)
     ∙ ap (λ (n : ℕ). n / 2) (pow-suc 2 (k - 1)) ∙ mul-div_cancel (2 ^ (k - 1)) (pow_pos 1))
 
--- ---- the answers of `bitmask` and `sign_bit_mask`: at 0, from 64 up, and between
-
-module _ (w : ℕ) where
-  pub mask_none : w ≡ 0 → 0 ≡ bitmask_of w
-  mask_none e = ap bitmask_of (sym e)
-
-  pub mask_all : 64 ≤ w → 0xffff_ffff_ffff_ffff ≡ bitmask_of w
-  mask_all h = ap (λ (n : ℕ). n - 1) (sym (size_high w h))
-
-  -- the power is not 0, so that 1 can be subtracted
-  pub mask_some : w < 64 → 1 ≤ (1 * 2 ^ w) % 2 ^ 64
-  mask_some h = omega (arith, shl_one w h, pow_pos w)
-
-  pub mask_low : w < 64 → (1 * 2 ^ w) % 2 ^ 64 - 1 ≡ bitmask_of w
-  mask_low h = ap (λ (n : ℕ). n - 1) (shl_one w h ∙ sym (size_low w (le_of_lt h)))
-
-  pub sign_none : w ≡ 0 → 0 ≡ sign_bit_mask_of w
-  sign_none e = ap sign_bit_mask_of (sym e)
-
-  pub sign_top : 64 ≤ w → 0x8000_0000_0000_0000 ≡ sign_bit_mask_of w
-  sign_top h = ap (λ (n : ℕ). n / 2) (sym (size_high w h))
-
-  pub sign_low : (w ≡ 0 → ⊥) → w < 64 → (1 * 2 ^ (w - 1)) % 2 ^ 64 ≡ sign_bit_mask_of w
-  sign_low a h =
-      shl_one (w - 1) (omega arith) ∙ top_pow w (pos_of_ne-zero a) ∙ ap (λ (n : ℕ). n / 2) (sym (size_low w (le_of_lt h)))
+-- the sign bit of a width below 64
+pub sign_low : (w : ℕ) → (w ≡ 0 → ⊥) → w < 64 → (1 * 2 ^ (w - 1)) % 2 ^ 64 ≡ sign_bit_mask_of w
+sign_low w a h =
+    shl_one (w - 1) (omega arith) ∙ top_pow w (pos_of_ne-zero a) ∙ ap (λ (n : ℕ). n / 2) (sym (size_low w (le_of_lt h)))
 
 -- ---- masked words
 
@@ -64,13 +40,6 @@ masked w n e = ap (bit_and n) e ∙ and_mask n (min w 64)
 -- the same of a number that was wrapped to a word
 pub wrapped : (w n : ℕ) {s m : ℕ} → s ≡ n % 2 ^ 64 → m ≡ bitmask_of w → bit_and s m ≡ n % size w
 wrapped w n {s} e f = masked w s f ∙ ap (λ (k : ℕ). k % size w) e ∙ narrow w n
-
--- the same of a difference: what `wrapping_sub_u64` ensures is no equation of its answer
-pub difference : (a b w : ℕ) {s m : ℕ} → Fits w64 a → Fits w64 b → s < 2 ^ 64 → (s + b) % 2 ^ 64 ≡ a → m ≡ bitmask_of w → bit_and s m ≡ mod_sub a b w
-difference a b w {s} ha hb hs e f = wrapped w (a + (2 ^ 64 - b)) (let g : s ≡ (a + (2 ^ 64 - b)) % 2 ^ 64 = omega (arith, ha, hb) in g) f
-
-pub negated : (a w : ℕ) {r : ℕ} → r ≡ mod_sub 0 a w → r ≡ mod_neg a w
-negated a w e = e ∙ ap (λ (n : ℕ). n % size w) (zero-add (2 ^ 64 - a))
 
 -- a shift by 64 or more leaves nothing of a word
 pub shifted_out : (a k w : ℕ) → Fits w64 a → 64 ≤ k → 0 ≡ mod_shr a k w

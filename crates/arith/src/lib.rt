@@ -1,7 +1,7 @@
 // Modular arithmetic on u64 at a width in bits, after arith.rs. Every function answers for every argument.
 #![tactic(auto)]
 
-ghost use Rattle.std.specs.Prelude.{◌≡◌, ◌*◌, ◌%◌, ◌^◌};
+ghost use Rattle.std.specs.Prelude.{◌≡◌};
 ghost use Rattle.arith.specs.Arith.{bitmask_of, sign_bit_mask_of, mod_add, mod_sub, mod_mul, mod_neg, mod_not, mod_shr, low_bits, sign_extended};
 
 // The low `bitwidth` bits set: 0 at width 0, all ones from 64 up.
@@ -18,6 +18,7 @@ pub fn bitmask(bitwidth: u32) -> u64
 }
 
 // Only the sign bit of `bitwidth` bits set: 0 at width 0, the word's highest bit from 64 up.
+#[tactic(auto, using(crate::proofs::MaskLaws::sign_low))]
 pub fn sign_bit_mask(bitwidth: u32) -> u64
     ensures { result ≡ sign_bit_mask_of bitwidth }
 {
@@ -30,34 +31,25 @@ pub fn sign_bit_mask(bitwidth: u32) -> u64
     }
 }
 
+#[tactic(auto, using(crate::proofs::MaskLaws::wrapped))]
 pub fn mod_add(a: u64, b: u64, bitwidth: u32) -> u64
     ensures { result ≡ mod_add a b bitwidth }
 {
-    std::num::wrapping_add_u64(a, b) & bitmask(bitwidth)
+    a.wrapping_add(b) & bitmask(bitwidth)
 }
 
+#[tactic(auto, using(crate::proofs::MaskLaws::wrapped))]
 pub fn mod_sub(a: u64, b: u64, bitwidth: u32) -> u64
     ensures { result ≡ mod_sub a b bitwidth }
 {
-    std::num::wrapping_sub_u64(a, b) & bitmask(bitwidth)
+    a.wrapping_sub(b) & bitmask(bitwidth)
 }
 
-// Rust's `wrapping_mul`, by halves of 32 bits: the product of the two high halves is a multiple of 2^64, and is left out.
-fn wrapping_mul(a: u64, b: u64) -> u64
-    ensures { result ≡ (a * b) % 2 ^ 64 }
-{
-    let a0 = a & 0xffff_ffff;
-    let a1 = a >> 32;
-    let b0 = b & 0xffff_ffff;
-    let b1 = b >> 32;
-    let middle = std::num::wrapping_add_u64(a0 * b1, a1 * b0);
-    std::num::wrapping_add_u64(a0 * b0, middle << 32)
-}
-
+#[tactic(auto, using(crate::proofs::MaskLaws::wrapped))]
 pub fn mod_mul(a: u64, b: u64, bitwidth: u32) -> u64
     ensures { result ≡ mod_mul a b bitwidth }
 {
-    wrapping_mul(a, b) & bitmask(bitwidth)
+    a.wrapping_mul(b) & bitmask(bitwidth)
 }
 
 pub fn mod_neg(a: u64, bitwidth: u32) -> u64
@@ -66,6 +58,7 @@ pub fn mod_neg(a: u64, bitwidth: u32) -> u64
     mod_sub(0, a, bitwidth)
 }
 
+#[tactic(auto, using(crate::proofs::MaskLaws::masked))]
 pub fn mod_not(a: u64, bitwidth: u32) -> u64
     ensures { result ≡ mod_not a bitwidth }
 {
@@ -73,6 +66,7 @@ pub fn mod_not(a: u64, bitwidth: u32) -> u64
 }
 
 // Shifts the whole word before it masks, so bits above the width come down into it.
+#[tactic(auto, using(crate::proofs::MaskLaws::masked, crate::proofs::MaskLaws::shifted_out))]
 pub fn mod_shr(a: u64, k: u64, bitwidth: u32) -> u64
     ensures { result ≡ mod_shr a k bitwidth }
 {
@@ -84,6 +78,7 @@ pub fn mod_shr(a: u64, k: u64, bitwidth: u32) -> u64
 }
 
 // Zero extension to `to` bits.
+#[tactic(auto, using(crate::proofs::MaskLaws::masked))]
 pub fn zext(v: u64, to: u32) -> u64
     ensures { result ≡ low_bits v to }
 {
@@ -110,6 +105,7 @@ pub fn sext(v: u64, from: u32, to: u32) -> u64
 }
 
 // Truncation to the low `to` bits.
+#[tactic(auto, using(crate::proofs::MaskLaws::masked))]
 pub fn trunc(v: u64, to: u32) -> u64
     ensures { result ≡ low_bits v to }
 {

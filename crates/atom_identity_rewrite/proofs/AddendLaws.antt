@@ -11,17 +11,22 @@ use mir.Facts.{and_yes}
 use mir.Syntax.{w64}
 use mir.Val.{Fits}
 use borrow.Author.Tests.{ne_eqb, eq-eqb}
+use Rattle.std.specs.Prelude as std
 use Rattle.std.specs.Prelude.{if◌then◌else◌}
+use Rattle.std.specs.Result.{is_ok}
 use Rattle.expr.specs.declared.refusal.Refusal.{Refusal}
 use Rattle.expr.specs.declared.Arity.TheVariants.{One, Two}
-use Rattle.expr.specs.declared.Counted.{Counted}
-use Rattle.expr.specs.declared.Counted.TheVariants.{Count, Refused}
-use Rattle.expr.specs.Expr.{Neg, Add, Unary, Binary, Expr, leaf, unary, binary, unary_number, unary_operand, binary_number, encode}
+use Rattle.expr.specs.Expr.{Expr, leaf, unary, binary, unary_number, unary_operand, binary_number, encode}
+use Rattle.expr.specs.declared.kind.Unary.{Unary}
+use Rattle.expr.specs.declared.kind.Unary.TheVariants.{Neg}
+use Rattle.expr.specs.declared.kind.Binary.{Binary}
+use Rattle.expr.specs.declared.kind.Binary.TheVariants.{Add}
 use Rattle.expr.specs.ExprLaws.{nodes_pos, length_encode}
+use Rattle.expr.specs.Refusals.{reason_of}
 use Rattle.expr.specs.Parse.{arity_of, operand_ok, operands_ok}
 use Rattle.expr.specs.Parse as kinds
 use Rattle.expr.specs.KindLaws.{number_arity}
-use Rattle.expr.specs.Answers.{counted_outcome}
+use Rattle.expr.specs.Answers.{outcome}
 use Rattle.expr.specs.Span.{span_of}
 use Rattle.expr.specs.SpanLaws.{span_counted, span_not_refused}
 use Rattle.expr.specs.Parts.{tail}
@@ -34,7 +39,7 @@ use Rattle.rewriting.specs.MatchLaws.{neg_number}
 use Rattle.rewriting.specs.AtomIdentityRewrite as def
 use Rattle.rewriting.specs.AtomIdentityRewrite.{is_neg_kind, push_addend, flatten_addends}
 use Rattle.atom_identity_rewrite.specs.declared.addends.Addend.{Addend}
-use Rattle.atom_identity_rewrite.specs.Promises.{Stands, AddendsAre, IsFlat}
+use Rattle.atom_identity_rewrite.specs.Places.{Stands, AddendsAre}
 
 -- the addends of a tree whose words start at `at`, each by its place
 unfoldable pub placed : Expr → ℕ → Bool → List Addend
@@ -46,14 +51,18 @@ placed (binary k l r) at s =
 
 -- ---- `length_of`
 
-module _ (ws : List ℕ) (s : Starts ws) (even : length ws % 2 ≡ 0) (short : length ws ≤ 1024) (c : Counted) (h : counted_outcome c ≡ span_of ws) where
-  pub length_counted : (n : ℕ) → c ≡ Count n → n ≡ length (encode (tree_at ws))
-  length_counted = let f = starts_front ws s in span_counted ws (tree_at ws) f.rest f.words even short c h
+module _ (ws : List ℕ) (s : Starts ws) (even : length ws % 2 ≡ 0) (short : length ws ≤ 1024) (c : std.Result ℕ Refusal) (h : outcome c ≡ span_of ws) where
+  pub length_read : is_ok c ≡ true
+  length_read = let f = starts_front ws s in by_answer f.rest f.words c h
+    where
+      by_answer : (rest : List ℕ) → ws ≡ encode (tree_at ws) ++ rest → (d : std.Result ℕ Refusal) → outcome d ≡ span_of ws → is_ok d ≡ true
+      by_answer rest e (std.Ok n) g = refl
+      by_answer rest e (std.Err r) g = absurd (span_not_refused ws (tree_at ws) rest e even short (reason_of r) g)
 
-  pub length_refused : (r : Refusal) → c ≡ Refused r → 0 ≡ length (encode (tree_at ws))
-  length_refused r e = let f = starts_front ws s in absurd (span_not_refused ws (tree_at ws) f.rest f.words even short c h r e)
+  pub length_counted : (n : ℕ) → c ≡ std.Ok n → n ≡ length (encode (tree_at ws))
+  length_counted n e = let f = starts_front ws s in span_counted ws (tree_at ws) f.rest f.words even short n (ap outcome (sym e) ∙ h)
 
-pub ruleset lengths = (length_counted, length_refused)
+pub ruleset lengths = (length_read, length_counted)
 
 -- ---- how many addends a tree has
 
@@ -291,20 +300,25 @@ module _ (ws : List ℕ) (list : List Addend) (count : ℕ) (signs : List Bool) 
   total : length (placed (tree_at ws) 0 false) ≤ 256
   total = omega (arith, few (tree_at ws) 0 false, exact_length ws (tree_at ws) g.whole, length_encode (tree_at ws), g.short)
 
-  pub gathering_done : due ≤ 0 → IsFlat ws (record { list = list; count = count })
-  unfolding placed_all
-  gathering_done h =
-      let none-due : length g.pending ≤ 0 = omega (arith, g.due_is) in
-      let e : g.pending ≡ [] = drop_of_length-le g.pending none-due in
-      let x = g.whole in
-      let is : take count list ≡ placed (tree_at ws) 0 false = sym (g.gathered.all ∙ ap (λ (l : List Owed). take count list ++ placed_all l at) e ∙ append-nil (take count list)) in
-      let f = exact_front ws (tree_at ws) x in
-      let are = placed_are ws (tree_at ws) false [] f.rest 0 refl f.words x.operands in
-      record {
-        few = g.counted;
-        are = subst (λ (l : List Addend). AddendsAre ws l (flatten_addends (tree_at ws))) (sym is) are;
-        counts = sym (length-take-le count list (omega (arith, g.counted, g.has_list))) ∙ ap length is ∙ are_length ws (placed (tree_at ws) 0 false) (flatten_addends (tree_at ws)) are;
-      }
+  module _ (h : due ≤ 0) where
+    all_taken : take count list ≡ placed (tree_at ws) 0 false
+    unfolding placed_all
+    all_taken =
+        let none-due : length g.pending ≤ 0 = omega (arith, g.due_is) in
+        let e : g.pending ≡ [] = drop_of_length-le g.pending none-due in
+        sym (g.gathered.all ∙ ap (λ (l : List Owed). take count list ++ placed_all l at) e ∙ append-nil (take count list))
+
+    pub gathered_are : AddendsAre ws (take count list) (flatten_addends (tree_at ws))
+    gathered_are =
+        let x = g.whole in
+        let f = exact_front ws (tree_at ws) x in
+        subst (λ (l : List Addend). AddendsAre ws l (flatten_addends (tree_at ws))) (sym all_taken) (placed_are ws (tree_at ws) false [] f.rest 0 refl f.words x.operands)
+
+    pub gathered_count : count ≡ length (flatten_addends (tree_at ws))
+    gathered_count = sym (length-take-le count list (omega (arith, g.counted, g.has_list))) ∙ are_length ws (take count list) (flatten_addends (tree_at ws)) gathered_are
+
+  pub gathered_few : count ≤ 256
+  gathered_few = g.counted
 
   module _ (pos : 0 < due) where
     abbrev here : Split g.pending
@@ -466,4 +480,4 @@ module _ (ws : List ℕ) (list : List Addend) (count : ℕ) (signs : List Bool) 
               (one_turn ws list count signs sign more at tree one_placed (omega (arith, count_below, g.has_list)) state));
         }
 
-pub ruleset gathers = (gathering_first, gathering_done, kind_left, place_fits, turn_falls, top_below, due_below, due_fits, gathering_add, gathering_neg, behind_starts, behind_even, behind_short, count_below, count_fits, count_scaled, past_fits, past_falls, gathering_one)
+pub ruleset gathers = (gathering_first, gathered_are, gathered_count, gathered_few, kind_left, place_fits, turn_falls, top_below, due_below, due_fits, gathering_add, gathering_neg, behind_starts, behind_even, behind_short, count_below, count_fits, count_scaled, past_fits, past_falls, gathering_one)

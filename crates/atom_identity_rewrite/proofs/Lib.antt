@@ -1,13 +1,7 @@
-pub mod StandLaws
-pub mod NodeLaws
-pub mod OrLaws
-pub mod MatcherLaws
-pub mod ScanLaws
-pub mod LocalLaws
-pub mod AddendLaws
-pub mod WalkLaws
-pub mod HeldLaws
+pub mod SubtreeLaws
 pub mod OfferLaws
+pub mod AddendLaws
+pub mod ScanLaws
 pub mod SortLaws
 pub mod RoleLaws
 pub mod ReadLaws

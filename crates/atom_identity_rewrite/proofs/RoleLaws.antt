@@ -8,19 +8,18 @@ use native.Mathlib.Omega.{arith}
 use lib.Dec.{eqb}
 use lib.ListN.{length}
 use borrow.Author.Tests.{ne_eqb, eq-eqb}
+use Rattle.std.specs.Prelude as std
 use Rattle.std.specs.Prelude.{if◌then◌else◌}
-use Rattle.expr.specs.Expr.{And, Expr, binary}
-use Rattle.expr.specs.Front.{left_of, right_of}
+use Rattle.expr.specs.Expr.{Expr, binary}
+use Rattle.expr.specs.declared.kind.Binary.TheVariants.{And}
 use Rattle.rewriting.specs.Optional.{◌and_then◌, ◌or_else◌, only_if, map}
 use Rattle.rewriting.specs.OptionalLaws.{not_both, Every, every_at, every_or_else, every_map, every_map_on}
 use Rattle.rewriting.specs.AtomIdentityRewrite as def
 use Rattle.rewriting.specs.AtomIdentityRewrite.{beside_not_of, any_negated, extract, only, plus_and_minus, is_there, as_one, as_or, as_minus_two, as_minus_twice_or, match_and_via_not_or_plus_a_plus_one, match_xor_via_ornot_flat}
-use Rattle.atom_identity_rewrite.specs.declared.candidate.Match.{Match}
-use Rattle.atom_identity_rewrite.specs.declared.candidate.Match.TheVariants as matched
+use Rattle.atom_identity_rewrite.specs.declared.candidate.Candidate.{Candidate}
+use Rattle.atom_identity_rewrite.specs.declared.subtree.Subtree.{Subtree}
 use Rattle.atom_identity_rewrite.specs.declared.reading.Roles.{Roles}
-use Rattle.atom_identity_rewrite.specs.Promises.{Standing, part_tree, Matched, xor_of_or_not, unit_by, or_by, remaining, others, first_of, last_signed, Held, Sorted, ThreeSorted, AndOfRoles, XorOfRoles}
-use Rattle.atom_identity_rewrite.proofs.MatcherLaws.{match_none}
-use Rattle.atom_identity_rewrite.proofs.HeldLaws.{or_none, or_sides_lem, held_none, held_some, held_stands, held_has, holding}
+use Rattle.atom_identity_rewrite.specs.Promises.{tree_of, optional_tree, optional_trees, made, xor_of_or_not, remaining, others, first_of, last_signed, Sorted, AndOfRoles, XorOfRoles}
 
 -- ---- what `extract` leaves
 
@@ -63,11 +62,7 @@ module _ {B : Type 0} where
   first_some none b e = not_both none refl e
   first_some (some p) b e = (p.1, ap (λ (c : B). some (c, p.1)) (let z : p.0 ≡ b = cc in z))
 
-module _ (ws : List ℕ) (f : def.Addend → Option Expr) (g : def.Addend → Option (Expr × Expr)) (xs : List def.Addend) (r : Roles) (s : Sorted ws f g xs r) where
-  -- the Or's operands
-  abbrev or_sides : Expr × Expr
-  or_sides = (left_of (part_tree ws r.or.part), right_of (part_tree ws r.or.part))
-
+module _ (f : def.Addend → Option Expr) (g : def.Addend → Option (Expr × Expr)) (xs : List def.Addend) (r : Roles) (s : Sorted f g xs r) where
   no_unit : r.unit ≡ false → extract f xs ≡ none
   no_unit e = not_there (extract f xs) (sym s.unit_is ∙ e)
 
@@ -82,32 +77,36 @@ module _ (ws : List ℕ) (f : def.Addend → Option Expr) (g : def.Addend → Op
       let p = is_there_lem (extract f xs) (sym s.unit_is ∙ e) in
       record { found = p.0; is = p.1; less = every_at _ (extract f xs) (one_less f xs) p.1; rest = ap (λ (o : Option (Expr × List def.Addend)). others o xs) p.1 }
 
-  no_or : (u : UnitAt) → r.or.has ≡ false → extract g u.found.1 ≡ none
-  no_or u e = first_none (extract g u.found.1) (ap (λ (ys : List def.Addend). first_of (extract g ys)) (sym u.rest) ∙ or_none ws r.or s.or_is e)
+  -- the first Or of the addends beside the constant
+  or_beside : (u : UnitAt) → first_of (extract g u.found.1) ≡ optional_trees r.or
+  or_beside u = ap (λ (ys : List def.Addend). first_of (extract g ys)) (sym u.rest) ∙ sym s.or_is
+
+  no_or : (u : UnitAt) → r.or ≡ std.None → extract g u.found.1 ≡ none
+  no_or u e = first_none (extract g u.found.1) (or_beside u ∙ ap optional_trees e)
 
   -- the addends that are neither
-  record OrAt (u : UnitAt) : Type 0 where
+  record OrAt (u : UnitAt) (sides : Expr × Expr) : Type 0 where
     left : List def.Addend
-    is : extract g u.found.1 ≡ some (or_sides, left)
+    is : extract g u.found.1 ≡ some (sides, left)
     less : OneLess u.found.1 left
     rest : remaining g (remaining f xs) ≡ left
 
-  or_at : (u : UnitAt) → r.or.has ≡ true → OrAt u
-  or_at u e =
-      let p = first_some (extract g u.found.1) or_sides (ap (λ (ys : List def.Addend). first_of (extract g ys)) (sym u.rest) ∙ or_sides_lem ws r.or s.or_is e) in
+  or_at : (u : UnitAt) (p : Subtree × Subtree) → r.or ≡ std.Some p → OrAt u (tree_of p.0, tree_of p.1)
+  or_at u p e =
+      let q = first_some (extract g u.found.1) (tree_of p.0, tree_of p.1) (or_beside u ∙ ap optional_trees e) in
       record {
-        left = p.0;
-        is = p.1;
-        less = every_at _ (extract g u.found.1) (one_less g u.found.1) p.1;
-        rest = ap (remaining g) u.rest ∙ ap (λ (o : Option ((Expr × Expr) × List def.Addend)). others o u.found.1) p.1;
+        left = q.0;
+        is = q.1;
+        less = every_at _ (extract g u.found.1) (one_less g u.found.1) q.1;
+        rest = ap (remaining g) u.rest ∙ ap (λ (o : Option ((Expr × Expr) × List def.Addend)). others o u.found.1) q.1;
       }
 
-  module _ (u : UnitAt) (v : OrAt u) where
-    plus_held : Held ws r.plus (last_signed false v.left)
-    plus_held = subst (λ (ys : List def.Addend). Held ws r.plus (last_signed false ys)) v.rest s.plus_is
+  module _ (u : UnitAt) (sides : Expr × Expr) (v : OrAt u sides) where
+    plus_last : optional_tree r.plus ≡ last_signed false v.left
+    plus_last = s.plus_is ∙ ap (last_signed false) v.rest
 
-    minus_held : Held ws r.minus (last_signed true v.left)
-    minus_held = subst (λ (ys : List def.Addend). Held ws r.minus (last_signed true ys)) v.rest s.minus_is
+    minus_last : optional_tree r.minus ≡ last_signed true v.left
+    minus_last = s.minus_is ∙ ap (last_signed true) v.rest
 
 -- ---- `and_of_roles`
 
@@ -139,44 +138,39 @@ module _ (w : ℕ) where
   pub and_not_three : (xs : List def.Addend) → (length xs ≡ 3 → ⊥) → match_and_via_not_or_plus_a_plus_one w xs ≡ none
   and_not_three xs f = and_is xs (ne_eqb (length xs) 3 f) refl
 
-module _ (ws : List ℕ) (r : Roles) where
-  pub and_negated : r.negated ≡ true → AndOfRoles ws r matched.None
-  and_negated e = record { is = λ w xs l s. match_none ws _ (and_is w xs (eq-eqb (length xs) 3 l) (sym s.negated_is ∙ e)) }
+module _ (r : Roles) where
+  pub and_negated : r.negated ≡ true → AndOfRoles r none
+  and_negated e = record { is = λ w xs l s. sym (and_is w xs (eq-eqb (length xs) 3 l) (sym s.negated_is ∙ e)) }
 
   module _ (n : r.negated ≡ false) where
     -- the answer for three addends, none of them subtracted
-    added_is : (w : ℕ) (xs : List def.Addend) → length xs ≡ 3 → Sorted ws (unit_by 4 w) (or_by 4 w) xs r
+    added_is : (w : ℕ) (xs : List def.Addend) → length xs ≡ 3 → Sorted (as_one w) as_or xs r
         → match_and_via_not_or_plus_a_plus_one w xs ≡ (extract (as_one w) xs and_then and_of_rest w)
     added_is w xs l s = and_is w xs (eq-eqb (length xs) 3 l) (sym s.negated_is ∙ n)
 
-    pub and_no_unit : r.unit ≡ false → AndOfRoles ws r matched.None
-    unfolding unit_by
+    pub and_no_unit : r.unit ≡ false → AndOfRoles r none
     and_no_unit e = record {
-      is = λ w xs l s.
-          match_none ws _ (added_is w xs l s ∙ ap (λ (o : Option (Expr × List def.Addend)). o and_then and_of_rest w) (no_unit ws (unit_by 4 w) (or_by 4 w) xs r s e));
+      is = λ w xs l s. sym (added_is w xs l s ∙ ap (λ (o : Option (Expr × List def.Addend)). o and_then and_of_rest w) (no_unit (as_one w) as_or xs r s e));
     }
 
     module _ (e : r.unit ≡ true) where
-      module _ (w : ℕ) (xs : List def.Addend) (l : length xs ≡ 3) (s : Sorted ws (unit_by 4 w) (or_by 4 w) xs r) where
-        unit_4 : UnitAt ws (unit_by 4 w) (or_by 4 w) xs r s
-        unit_4 = unit_at ws (unit_by 4 w) (or_by 4 w) xs r s e
+      module _ (w : ℕ) (xs : List def.Addend) (l : length xs ≡ 3) (s : Sorted (as_one w) as_or xs r) where
+        unit_4 : UnitAt (as_one w) as_or xs r s
+        unit_4 = unit_at (as_one w) as_or xs r s e
 
         rest_is : match_and_via_not_or_plus_a_plus_one w xs ≡ and_of_rest w unit_4.found
-        unfolding unit_by
         rest_is = added_is w xs l s ∙ ap (λ (o : Option (Expr × List def.Addend)). o and_then and_of_rest w) unit_4.is
 
-      pub and_no_or : r.or.has ≡ false → AndOfRoles ws r matched.None
-      unfolding or_by
+      pub and_no_or : r.or ≡ std.None → AndOfRoles r none
       and_no_or h = record {
         is = λ w xs l s.
-            match_none ws _ (rest_is w xs l s
-            ∙ ap (λ (o : Option ((Expr × Expr) × List def.Addend)). o and_then and_of_left w) (no_or ws (unit_by 4 w) (or_by 4 w) xs r s (unit_4 w xs l s) h));
+            sym (rest_is w xs l s ∙ ap (λ (o : Option ((Expr × Expr) × List def.Addend)). o and_then and_of_left w) (no_or (as_one w) as_or xs r s (unit_4 w xs l s) h));
       }
 
-      module _ (h : r.or.has ≡ true) where
-        module _ (w : ℕ) (xs : List def.Addend) (l : length xs ≡ 3) (s : Sorted ws (unit_by 4 w) (or_by 4 w) xs r) where
-          or_4 : OrAt ws (unit_by 4 w) (or_by 4 w) xs r s (unit_4 w xs l s)
-          or_4 = or_at ws (unit_by 4 w) (or_by 4 w) xs r s (unit_4 w xs l s) h
+      module _ (left right : Subtree) (h : r.or ≡ std.Some (left, right)) where
+        module _ (w : ℕ) (xs : List def.Addend) (l : length xs ≡ 3) (s : Sorted (as_one w) as_or xs r) where
+          or_4 : OrAt (as_one w) as_or xs r s (unit_4 w xs l s) (tree_of left, tree_of right)
+          or_4 = or_at (as_one w) as_or xs r s (unit_4 w xs l s) (left, right) h
 
           -- of three addends, less the constant and the Or, one is left
           left_4 : OneLeft or_4.left
@@ -184,29 +178,23 @@ module _ (ws : List ℕ) (r : Roles) where
               (let a = (unit_4 w xs l s).less.fewer in let b = or_4.less.fewer in omega arith)
               (or_4.less.added ((unit_4 w xs l s).less.added (sym s.negated_is ∙ n)))
 
-          plus_4 : Held ws r.plus (some left_4.addend.expr)
-          plus_4 = subst (Held ws r.plus) left_4.last (plus_held ws (unit_by 4 w) (or_by 4 w) xs r s (unit_4 w xs l s) or_4)
+          plus_4 : optional_tree r.plus ≡ some left_4.addend.expr
+          plus_4 = plus_last (as_one w) as_or xs r s (unit_4 w xs l s) _ or_4 ∙ left_4.last
 
-          is_plus : left_4.addend.expr ≡ part_tree ws r.plus.part
-          is_plus = let z = held_some ws r.plus plus_4 (held_has ws r.plus plus_4) in cc
+        -- so the one that is added is there
+        pub and_no_plus : r.plus ≡ std.None → AndOfRoles r none
+        and_no_plus g = record { is = λ w xs l s. not_both (optional_tree r.plus) (ap optional_tree g) (plus_4 w xs l s) }
 
-        pub plus_stands : ThreeSorted ws r → Standing ws r.plus.part
-        plus_stands t =
-            let p = plus_4 t.width t.addends t.three t.sorted in
-            held_stands ws r.plus p (held_has ws r.plus p)
-
-        pub and_matched : (m : Match)
-            → Matched ws m (map (binary And (part_tree ws r.plus.part)) (beside_not_of (part_tree ws r.plus.part) (left_of (part_tree ws r.or.part)) (right_of (part_tree ws r.or.part))))
-            → AndOfRoles ws r m
-        unfolding or_by
-        and_matched m k = record {
+        pub and_matched : (a : Subtree) → r.plus ≡ std.Some a → (o : Option Expr)
+            → o ≡ map (binary And (tree_of a)) (beside_not_of (tree_of a) (tree_of left) (tree_of right)) → AndOfRoles r o
+        and_matched a g o k = record {
           is = λ w xs l s.
-              subst (Matched ws m)
-              (sym (rest_is w xs l s
-              ∙ ap (λ (o : Option ((Expr × Expr) × List def.Addend)). o and_then and_of_left w) (or_4 w xs l s).is
-              ∙ ap (λ (o : Option def.Addend). o and_then λ a. map (binary And a.expr) (beside_not_of a.expr (left_of (part_tree ws r.or.part)) (right_of (part_tree ws r.or.part)))) (left_4 w xs l s).is
-              ∙ ap (λ (t : Expr). map (binary And t) (beside_not_of t (left_of (part_tree ws r.or.part)) (right_of (part_tree ws r.or.part)))) (is_plus w xs l s)))
-              k;
+              let z : tree_of a ≡ (left_4 w xs l s).addend.expr = let y = plus_4 w xs l s in let x = ap optional_tree g in cc in
+              k
+              ∙ ap (λ (t : Expr). map (binary And t) (beside_not_of t (tree_of left) (tree_of right))) z
+              ∙ sym (rest_is w xs l s
+              ∙ ap (λ (q : Option ((Expr × Expr) × List def.Addend)). q and_then and_of_left w) (or_4 w xs l s).is
+              ∙ ap (λ (q : Option def.Addend). q and_then λ b. map (binary And b.expr) (beside_not_of b.expr (tree_of left) (tree_of right))) (left_4 w xs l s).is);
         }
 
 -- ---- `xor_of_roles`
@@ -240,7 +228,7 @@ two_left (a ∷ b ∷ []) l = by_signs a.negated b.negated
     by_signs false false = refl
 two_left (a ∷ b ∷ c ∷ ys) l = absurd (omega arith)
 
--- what tag 5 makes of the Or's operands and the addends that are left, and of what is left beside the constant
+-- what tag 5 makes of the Orights operands and the addends that are left, and of what is left beside the constant
 abbrev xor_of_pair : Expr × Expr → Expr × Expr → Option Expr
 xor_of_pair s p = xor_of_or_not s.0 s.1 p.0 p.1
 
@@ -262,77 +250,65 @@ module _ (w : ℕ) where
   pub xor_not_four : (xs : List def.Addend) → (length xs ≡ 4 → ⊥) → match_xor_via_ornot_flat w xs ≡ none
   xor_not_four xs f = xor_by xs (ne_eqb (length xs) 4 f)
 
-module _ (ws : List ℕ) (r : Roles) where
-  pub xor_no_unit : r.unit ≡ false → XorOfRoles ws r matched.None
-  unfolding unit_by
+module _ (r : Roles) where
+  pub xor_no_unit : r.unit ≡ false → XorOfRoles r none
   xor_no_unit e = record {
-    is = λ w xs l s.
-        match_none ws _ (xor_is w xs l ∙ ap (λ (o : Option (Expr × List def.Addend)). o and_then xor_of_rest w) (no_unit ws (unit_by 5 w) (or_by 5 w) xs r s e));
+    is = λ w xs l s. sym (xor_is w xs l ∙ ap (λ (o : Option (Expr × List def.Addend)). o and_then xor_of_rest w) (no_unit (as_minus_two w) (as_minus_twice_or w) xs r s e));
   }
 
   module _ (e : r.unit ≡ true) where
-    module _ (w : ℕ) (xs : List def.Addend) (l : length xs ≡ 4) (s : Sorted ws (unit_by 5 w) (or_by 5 w) xs r) where
-      unit_5 : UnitAt ws (unit_by 5 w) (or_by 5 w) xs r s
-      unit_5 = unit_at ws (unit_by 5 w) (or_by 5 w) xs r s e
+    module _ (w : ℕ) (xs : List def.Addend) (l : length xs ≡ 4) (s : Sorted (as_minus_two w) (as_minus_twice_or w) xs r) where
+      unit_5 : UnitAt (as_minus_two w) (as_minus_twice_or w) xs r s
+      unit_5 = unit_at (as_minus_two w) (as_minus_twice_or w) xs r s e
 
       rest_is_5 : match_xor_via_ornot_flat w xs ≡ xor_of_rest w unit_5.found
-      unfolding unit_by
       rest_is_5 = xor_is w xs l ∙ ap (λ (o : Option (Expr × List def.Addend)). o and_then xor_of_rest w) unit_5.is
 
-    pub xor_no_or : r.or.has ≡ false → XorOfRoles ws r matched.None
-    unfolding or_by
+    pub xor_no_or : r.or ≡ std.None → XorOfRoles r none
     xor_no_or h = record {
       is = λ w xs l s.
-          match_none ws _ (rest_is_5 w xs l s
-          ∙ ap (λ (o : Option ((Expr × Expr) × List def.Addend)). o and_then xor_of_left) (no_or ws (unit_by 5 w) (or_by 5 w) xs r s (unit_5 w xs l s) h));
+          sym (rest_is_5 w xs l s
+          ∙ ap (λ (o : Option ((Expr × Expr) × List def.Addend)). o and_then xor_of_left) (no_or (as_minus_two w) (as_minus_twice_or w) xs r s (unit_5 w xs l s) h));
     }
 
-    module _ (h : r.or.has ≡ true) where
-      module _ (w : ℕ) (xs : List def.Addend) (l : length xs ≡ 4) (s : Sorted ws (unit_by 5 w) (or_by 5 w) xs r) where
-        or_5 : OrAt ws (unit_by 5 w) (or_by 5 w) xs r s (unit_5 w xs l s)
-        or_5 = or_at ws (unit_by 5 w) (or_by 5 w) xs r s (unit_5 w xs l s) h
+    module _ (left right : Subtree) (h : r.or ≡ std.Some (left, right)) where
+      module _ (w : ℕ) (xs : List def.Addend) (l : length xs ≡ 4) (s : Sorted (as_minus_two w) (as_minus_twice_or w) xs r) where
+        or_5 : OrAt (as_minus_two w) (as_minus_twice_or w) xs r s (unit_5 w xs l s) (tree_of left, tree_of right)
+        or_5 = or_at (as_minus_two w) (as_minus_twice_or w) xs r s (unit_5 w xs l s) (left, right) h
 
         -- of four addends, less the constant and the Or, two are left
-        pair_is : plus_and_minus or_5.left ≡ both (last_signed false or_5.left) (last_signed true or_5.left)
-        pair_is = two_left or_5.left (let a = (unit_5 w xs l s).less.fewer in let b = or_5.less.fewer in omega arith)
-
-        plus_5 : Held ws r.plus (last_signed false or_5.left)
-        plus_5 = plus_held ws (unit_by 5 w) (or_by 5 w) xs r s (unit_5 w xs l s) or_5
-
-        minus_5 : Held ws r.minus (last_signed true or_5.left)
-        minus_5 = minus_held ws (unit_by 5 w) (or_by 5 w) xs r s (unit_5 w xs l s) or_5
-
-        left_is : match_xor_via_ornot_flat w xs ≡ (plus_and_minus or_5.left and_then xor_of_pair (or_sides ws (unit_by 5 w) (or_by 5 w) xs r s))
-        unfolding or_by
-        left_is = rest_is_5 w xs l s ∙ ap (λ (o : Option ((Expr × Expr) × List def.Addend)). o and_then xor_of_left) or_5.is
+        pair_is : plus_and_minus or_5.left ≡ both (optional_tree r.plus) (optional_tree r.minus)
+        pair_is =
+            two_left or_5.left (let a = (unit_5 w xs l s).less.fewer in let b = or_5.less.fewer in omega arith)
+            ∙ sym (ap₂ both (plus_last (as_minus_two w) (as_minus_twice_or w) xs r s (unit_5 w xs l s) _ or_5) (minus_last (as_minus_two w) (as_minus_twice_or w) xs r s (unit_5 w xs l s) _ or_5))
 
         -- the answer, by the pair of the two that are left
-        pair_gives : (p : Option (Expr × Expr)) → plus_and_minus or_5.left ≡ p → match_xor_via_ornot_flat w xs ≡ (p and_then xor_of_pair (or_sides ws (unit_by 5 w) (or_by 5 w) xs r s))
-        pair_gives p k = left_is ∙ ap (λ (o : Option (Expr × Expr)). o and_then xor_of_pair (or_sides ws (unit_by 5 w) (or_by 5 w) xs r s)) k
+        pair_gives : (q : Option (Expr × Expr)) → both (optional_tree r.plus) (optional_tree r.minus) ≡ q → (q and_then xor_of_pair (tree_of left, tree_of right)) ≡ match_xor_via_ornot_flat w xs
+        pair_gives q k =
+            sym (rest_is_5 w xs l s
+            ∙ ap (λ (o : Option ((Expr × Expr) × List def.Addend)). o and_then xor_of_left) or_5.is
+            ∙ ap (λ (o : Option (Expr × Expr)). o and_then xor_of_pair (tree_of left, tree_of right)) (pair_is ∙ k))
 
-      pub xor_no_plus : r.plus.has ≡ false → XorOfRoles ws r matched.None
-      xor_no_plus p = record {
-        is = λ w xs l s.
-            match_none ws _ (pair_gives w xs l s none (pair_is w xs l s
-            ∙ ap (λ (o : Option Expr). both o (last_signed true (or_5 w xs l s).left)) (held_none ws r.plus (plus_5 w xs l s) p)));
+      pub xor_no_plus : r.plus ≡ std.None → XorOfRoles r none
+      xor_no_plus g = record { is = λ w xs l s. pair_gives w xs l s none (ap (λ (o : Option Expr). both o (optional_tree r.minus)) (ap optional_tree g)) }
+
+      pub xor_no_minus : r.minus ≡ std.None → XorOfRoles r none
+      xor_no_minus g = record {
+        is = λ w xs l s. pair_gives w xs l s none (ap (both (optional_tree r.plus)) (ap optional_tree g) ∙ both_none (optional_tree r.plus));
       }
 
-      pub xor_no_minus : r.minus.has ≡ false → XorOfRoles ws r matched.None
-      xor_no_minus p = record {
-        is = λ w xs l s.
-            match_none ws _ (pair_gives w xs l s none (pair_is w xs l s
-            ∙ ap (both (last_signed false (or_5 w xs l s).left)) (held_none ws r.minus (minus_5 w xs l s) p) ∙ both_none (last_signed false (or_5 w xs l s).left)));
+      pub xor_matched : (a : Subtree) → r.plus ≡ std.Some a → (b : Subtree) → r.minus ≡ std.Some b → (o : Option Expr)
+          → o ≡ xor_of_or_not (tree_of left) (tree_of right) (tree_of a) (tree_of b) → XorOfRoles r o
+      xor_matched a g b i o k = record {
+        is = λ w xs l s. k ∙ pair_gives w xs l s (some (tree_of a, tree_of b)) (ap₂ both (ap optional_tree g) (ap optional_tree i));
       }
 
-      pub xor_matched : r.plus.has ≡ true → r.minus.has ≡ true → (m : Match)
-          → Matched ws m (xor_of_or_not (left_of (part_tree ws r.or.part)) (right_of (part_tree ws r.or.part)) (part_tree ws r.plus.part) (part_tree ws r.minus.part))
-          → XorOfRoles ws r m
-      xor_matched p q m k = record {
-        is = λ w xs l s.
-            subst (Matched ws m)
-            (sym (pair_gives w xs l s (some (part_tree ws r.plus.part, part_tree ws r.minus.part)) (pair_is w xs l s
-            ∙ ap₂ both (held_some ws r.plus (plus_5 w xs l s) p) (held_some ws r.minus (minus_5 w xs l s) q))))
-            k;
-      }
+-- the answer at a `?`
+module _ (r : Roles) (m : std.Option Candidate) (e : m ≡ std.None) where
+  pub and_left_off : AndOfRoles r none → AndOfRoles r (made m)
+  and_left_off h = subst (λ (o : std.Option Candidate). AndOfRoles r (made o)) (sym e) h
 
-pub ruleset roles = (holding, and_negated, and_no_unit, and_no_or, plus_stands, and_matched, xor_no_unit, xor_no_or, xor_no_plus, xor_no_minus, xor_matched)
+  pub xor_left_off : XorOfRoles r none → XorOfRoles r (made m)
+  xor_left_off h = subst (λ (o : std.Option Candidate). XorOfRoles r (made o)) (sym e) h
+
+pub ruleset roles = (and_left_off, xor_left_off, and_negated, and_no_unit, and_no_or, and_no_plus, and_matched, xor_no_unit, xor_no_or, xor_no_plus, xor_no_minus, xor_matched)

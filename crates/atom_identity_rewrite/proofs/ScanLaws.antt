@@ -1,34 +1,42 @@
--- A list of addends that is filled, and that is read, one after the other. Assumes nothing.
-use mathlib.Core.Path.{◌≡◌, refl, sym, ap, subst, ◌∙◌}
-use mathlib.Core.List.{List, [], ◌∷◌, ◌++◌, append_assoc, append-nil}
-use Prim.Native.Nat.{ℕ, zero, suc, ◌+◌, ◌<◌, ◌≤◌}
-use native.Mathlib.Numerals.{add-one}
-use native.Mathlib.Omega.{arith}
-use lib.ListN.{length, take, get_or, set}
-use lib.Seq.{take-suc, get_or-take, length-take-le}
-use Rattle.expr.specs.LentLaws.{filled, filled_next}
+-- A list of addends that is read, one after the other. Assumes nothing.
+use Rattle.std.specs.Prelude.{◌≡◌, refl, List, [], ◌∷◌, ◌++◌, ℕ, zero, suc, ◌+◌, ◌≤◌, ◌<◌, length, take, get_or}
+use Rattle.std.proofs.Common.{sym, ap, subst, ◌∙◌, arith, add-one, take-suc}
+use Rattle.std.proofs.lemmas.Fn.{FoldsTo-push}
+use Rattle.expr.specs.Parts.{part}
+use Rattle.expr.specs.Front.{Whole}
+use Rattle.expr.specs.PartLaws.{parts, exact_tree, exact_whole}
 use Rattle.rewriting.specs.AtomIdentityRewrite as def
 use Rattle.atom_identity_rewrite.specs.declared.addends.Addend.{Addend}
-use Rattle.atom_identity_rewrite.specs.declared.reading.Reading.{Reading}
-use Rattle.atom_identity_rewrite.specs.Promises.{no_addend, AddendIs, AddendsAre, Addended, Named, Reads, Carries, Carried}
+use Rattle.atom_identity_rewrite.specs.declared.addends.SignedTree.{SignedTree}
+use Rattle.atom_identity_rewrite.specs.Places.{AddendIs, AddendsAre}
+use Rattle.atom_identity_rewrite.specs.Promises.{addend_of, placed_addend, Addended, Named, ReadsOne, Folded, ReadAll}
 
--- ---- what was filled up to i
+-- ---- an addend's own subtree
 
-pub filled_on : (from onto out : List Addend) (i : ℕ) (a : Addend) → out ≡ filled from onto i → a ≡ get_or from i no_addend → length from ≡ 256 → i < 256 → i < length onto → set out i a ≡ filled from onto (i + 1)
-filled_on from onto out i a so_far is full held room = rw (is, so_far) (filled_next from onto i no_addend (omega (arith, full)) room)
+module _ (ws : List ℕ) (a : Addend) where
+  pub placed_is : {x : def.Addend} → AddendIs ws a x → placed_addend ws a ≡ x
+  placed_is {x} h = λ i. record { expr = exact_tree (part a.start (a.start + a.len) ws) x.expr h.stands.exactly i; negated = h.sign i }
+
+  module _ (h : Named ws a) where
+    pub placed_inside : a.start + a.len ≤ length ws
+    placed_inside = h.is.stands.inside
+
+    pub placed_whole : Whole (part a.start (a.start + a.len) ws)
+    placed_whole = exact_whole (part a.start (a.start + a.len) ws) h.addend.expr h.is.stands.exactly
+
+pub ruleset places = (parts, placed_inside, placed_whole)
 
 -- ---- each addend of the list is named
 
-named_at : (ws : List ℕ) (list : List Addend) (xs : List def.Addend) (i : ℕ) → AddendsAre ws list xs → i < length list → Named ws (get_or list i no_addend)
+named_at : (ws : List ℕ) (list : List Addend) (xs : List def.Addend) (i : ℕ) (d : Addend) → AddendsAre ws list xs → i < length list → Named ws (get_or list i d)
 unfolding AddendsAre
-named_at ws [] xs i are less = absurd (omega arith)
-named_at ws (a ∷ list) [] i are less = absurd are
-named_at ws (a ∷ list) (x ∷ xs) zero are less = record { addend = x; is = are.0 }
-named_at ws (a ∷ list) (x ∷ xs) (suc i) are less = named_at ws list xs i are.1 (omega arith)
+named_at ws [] xs i d are less = absurd (omega arith)
+named_at ws (a ∷ list) [] i d are less = absurd are
+named_at ws (a ∷ list) (x ∷ xs) zero d are less = record { addend = x; is = are.0 }
+named_at ws (a ∷ list) (x ∷ xs) (suc i) d are less = named_at ws list xs i d are.1 (omega arith)
 
-pub named_one : (ws : List ℕ) (list : List Addend) (n i : ℕ) → Addended ws (take n list) → n ≤ length list → i < n → Named ws (get_or list i no_addend)
-named_one ws list n i all within less =
-    subst (Named ws) (get_or-take n list i no_addend less) (named_at ws (take n list) all.addends i all.are (omega (arith, length-take-le n list within)))
+pub named_one : (ws : List ℕ) (list : List Addend) (i : ℕ) (d : Addend) → Addended ws list → i < length list → Named ws (get_or list i d)
+named_one ws list i d all less = named_at ws list all.addends i d all.are less
 
 -- ---- the last of a list that is read
 
@@ -51,23 +59,23 @@ last_of_lem ws (b ∷ list) a (x ∷ xs) are =
 
 -- ---- what was read up to i
 
-carried_nothing : (ws : List ℕ) (s first : Reading) (xs ys : List def.Addend) → AddendsAre ws [] ys → Reads ws first xs s → Reads ws first (xs ++ ys) s
-unfolding AddendsAre
-carried_nothing ws s first xs [] are reads = subst (λ (l : List def.Addend). Reads ws first l s) (sym (append-nil xs)) reads
-carried_nothing ws s first xs (y ∷ ys) are reads = absurd are
+module _ {S : Type 0} (read : S → SignedTree → S → Type 0) (ws : List ℕ) (s : S) where
+  nothing : (xs : List def.Addend) → AddendsAre ws [] xs → Folded read s xs s
+  unfolding AddendsAre
+  nothing [] are = record { folds = refl }
+  nothing (x ∷ xs) are = absurd are
 
-pub carried_none : (ws : List ℕ) (s : Reading) → Carried ws [] s s
-carried_none ws s = record { carried = carried_nothing ws s }
+  pub none_read : ReadAll ws [] read s s
+  none_read = record { folded = nothing }
 
-module _ (ws : List ℕ) (list : List Addend) (a : Addend) (s t u : Reading) where
-  carried_then : Carried ws list s t → Carries ws a t u → Carried ws (list ++ (a ∷ [])) s u
-  carried_then so_far one = record {
-    carried = λ first xs ys are reads.
-        let l : Last ws list a ys = last_of_lem ws list a ys are in
-        let next : Reads ws first ((xs ++ l.before) ++ (l.last ∷ [])) u = one.carries first (xs ++ l.before) l.last l.is (so_far.carried first xs l.before l.are reads) in
-        subst (λ (r : List def.Addend). Reads ws first r u) (append_assoc xs l.before (l.last ∷ []) ∙ ap (λ (r : List def.Addend). xs ++ r) (sym l.all)) next;
-  }
-
-pub carried_on : (ws : List ℕ) (list : List Addend) (i : ℕ) (s t u : Reading) → i < length list → Carried ws (take i list) s t → Carries ws (get_or list i no_addend) t u → Carried ws (take (i + 1) list) s u
-carried_on ws list i s t u inside so_far one =
-    subst (λ (l : List Addend). Carried ws l s u) (sym (ap (λ (m : ℕ). take m list) (add-one i) ∙ take-suc list i no_addend inside)) (carried_then ws (take i list) (get_or list i no_addend) s t u so_far one)
+  module _ (list : List Addend) (i : ℕ) (d : Addend) (t u : S) (x : SignedTree) where
+    pub read_on : i < length list → ReadAll ws (take i list) read s t → addend_of x ≡ placed_addend ws (get_or list i d) → read t x u → ReadAll ws (take (i + 1) list) read s u
+    read_on inside so_far e one =
+        subst (λ (l : List Addend). ReadAll ws l read s u) (sym (ap (λ (m : ℕ). take m list) (add-one i) ∙ take-suc list i d inside))
+        (record {
+          folded = λ xs are.
+              let l : Last ws (take i list) (get_or list i d) xs = last_of_lem ws (take i list) (get_or list i d) xs are in
+              let r : ReadsOne read t l.last u = record { addend = x; is = e ∙ placed_is ws (get_or list i d) l.is; reads = one } in
+              subst (λ (ys : List def.Addend). Folded read s ys u) (sym l.all)
+              (record { folds = FoldsTo-push (ReadsOne read) s l.before t l.last u (so_far.folded l.before l.are).folds r });
+        })

@@ -1,22 +1,21 @@
 -- The roles of the addends, with one addend more. Assumes nothing.
-use mathlib.Core.Path.{◌≡◌, refl, sym, ap, subst, ◌∙◌}
+use mathlib.Core.Path.{◌≡◌, refl, sym, ap, ◌∙◌}
 use mathlib.Core.Bool.{Bool, true, false, ◌&&◌, ◌||◌, not, cond, true≢false}
 use mathlib.Core.List.{List, [], ◌∷◌, ◌++◌}
-use mathlib.Core.Option.{Option, none, some}
 use Prim.Native.Nat.{ℕ}
-use lib.Dec.{eqb}
-use borrow.Author.Tests.{ne_eqb, eq-eqb}
+use mathlib.Core.Option.{Option, none, some}
+use Rattle.std.specs.Prelude as std
 use Rattle.std.specs.Prelude.{if◌then◌else◌}
-use Rattle.expr.specs.Expr.{Or, Expr}
+use Rattle.std.specs.Option.{is_some}
+use Rattle.expr.specs.Expr.{Expr}
+use Rattle.expr.specs.declared.kind.Binary.TheVariants.{Or}
 use Rattle.rewriting.specs.Optional.{◌or_else◌, only_if, map}
 use Rattle.rewriting.specs.AtomIdentityRewrite as def
 use Rattle.rewriting.specs.AtomIdentityRewrite.{any_negated, extract, is_there, is_masked, as_one, as_or, as_minus_two, as_minus_twice_or, operands_of, or_in_product}
-use Rattle.atom_identity_rewrite.specs.declared.addends.Addend.{Addend}
-use Rattle.atom_identity_rewrite.specs.declared.parts.Part.{Part}
-use Rattle.atom_identity_rewrite.specs.declared.parts.Role.{Role}
+use Rattle.atom_identity_rewrite.specs.declared.subtree.Subtree.{Subtree}
+use Rattle.atom_identity_rewrite.specs.declared.addends.SignedTree.{SignedTree}
 use Rattle.atom_identity_rewrite.specs.declared.reading.Roles.{Roles}
-use Rattle.atom_identity_rewrite.specs.Promises.{part_tree, factor_by, Named, addend_of, OrHeld, OrHeldIs, others, remaining, first_of, last_signed, Held, HeldIs, Sorted, Sorts, SortsBy, unit_by, or_by}
-use Rattle.atom_identity_rewrite.proofs.HeldLaws.{its_role, addend_stands, or_has, holding}
+use Rattle.atom_identity_rewrite.specs.Promises.{tree_of, optional_tree, optional_trees, addend_of, no_roles, others, remaining, first_of, last_signed, Sorted, Sorts, SortsAs}
 
 -- ---- `extract` with one addend more
 
@@ -157,151 +156,140 @@ any_more x (a ∷ xs) = ap (λ (b : Bool). a.negated || b) (any_more x xs) ∙ a
 
 -- ---- `sort`
 
-itself_held : (ws : List ℕ) (a : Addend) → Named ws a → Held ws (its_role ws a) (some (addend_of ws a).expr)
-unfolding HeldIs
-itself_held ws a h = record { is = (addend_stands ws a h, refl) }
-
 first_there : {B : Type 0} (e : Option (Found B)) → is_there (first_of e) ≡ is_there e
 first_there none = refl
 first_there (some p) = refl
 
-module _ (ws : List ℕ) (a : Addend) (unit : Bool) (or : Role) (before : Roles) where
-  -- the addend more
-  abbrev this : def.Addend
-  this = addend_of ws a
+trees_there : (o : std.Option (Subtree × Subtree)) → is_there (optional_trees o) ≡ is_some o
+trees_there std.None = refl
+trees_there (std.Some p) = refl
 
-  module _ (f : def.Addend → Option Expr) (g : def.Addend → Option (Expr × Expr)) (xs : List def.Addend) (u : unit ≡ is_there (f this)) (o : OrHeld ws or (g this)) (s : Sorted ws f g xs before) where
-    unit_first : is_first (extract f xs) (f this) ≡ (unit && not before.unit)
+module _ (a : SignedTree) (unit : Bool) (or : std.Option (Subtree × Subtree)) (before : Roles) where
+  -- whether any addend is subtracted
+  abbrev negated : Bool
+  negated = before.negated || a.negated
+
+  module _ (f : def.Addend → Option Expr) (g : def.Addend → Option (Expr × Expr)) (xs : List def.Addend) (u : unit ≡ is_there (f (addend_of a))) (o : optional_trees or ≡ g (addend_of a)) (s : Sorted f g xs before) where
+    unit_first : is_first (extract f xs) (f (addend_of a)) ≡ (unit && not before.unit)
     unit_first = let h = s.unit_is in cc
 
-    or_first : is_first (extract g (remaining f xs)) (g this) ≡ (or.has && not before.or.has)
-    or_first = let h = or_has ws or o in let k = or_has ws before.or s.or_is in let l = first_there (extract g (remaining f xs)) in cc
+    or_first : is_first (extract g (remaining f xs)) (g (addend_of a)) ≡ (is_some or && not (is_some before.or))
+    or_first =
+        let h : is_there (g (addend_of a)) ≡ is_some or = sym (ap is_there o) ∙ trees_there or in
+        let k : is_there (extract g (remaining f xs)) ≡ is_some before.or = sym (first_there (extract g (remaining f xs))) ∙ sym (ap is_there s.or_is) ∙ trees_there before.or in
+        cc
 
-    any_is : (n : Bool) → n ≡ (before.negated || a.negated) → n ≡ any_negated (xs ++ (this ∷ []))
-    any_is n h = h ∙ ap (λ (b : Bool). b || a.negated) s.negated_is ∙ sym (any_more this xs)
+    any_is : negated ≡ any_negated (xs ++ (addend_of a ∷ []))
+    any_is = ap (λ (b : Bool). b || a.negated) s.negated_is ∙ sym (any_more (addend_of a) xs)
 
-  module _ (n : Bool) (hn : n ≡ (before.negated || a.negated)) (b : Bool) (hb : b ≡ (unit && not before.unit)) where
-    pub sort_unit : b ≡ true → Sorts ws a unit or before (record { unit = true; or = before.or; plus = before.plus; minus = before.minus; negated = n })
-    sort_unit e = record {
-      sorts = λ f g xs u o s.
-          let p = picked f xs this (unit_first f g xs u o s ∙ sym hb ∙ e) in
+  pub sort_unit : (unit && not before.unit) ≡ true → SortsAs (addend_of a) unit or before (record { unit = true; or = before.or; plus = before.plus; minus = before.minus; negated = negated })
+  sort_unit e = record {
+    sorts = λ f g u o. record {
+      sorts = λ xs s.
+          let p = picked f xs (addend_of a) (unit_first f g xs u o s ∙ e) in
           record {
             unit_is = sym p.there;
-            or_is = subst (λ (ys : List def.Addend). OrHeld ws before.or (first_of (extract g ys))) (sym p.rest) s.or_is;
-            plus_is = subst (λ (ys : List def.Addend). Held ws before.plus (last_signed false (remaining g ys))) (sym p.rest) s.plus_is;
-            minus_is = subst (λ (ys : List def.Addend). Held ws before.minus (last_signed true (remaining g ys))) (sym p.rest) s.minus_is;
-            negated_is = any_is f g xs u o s n hn;
+            or_is = s.or_is ∙ ap (λ (ys : List def.Addend). first_of (extract g ys)) (sym p.rest);
+            plus_is = s.plus_is ∙ ap (λ (ys : List def.Addend). last_signed false (remaining g ys)) (sym p.rest);
+            minus_is = s.minus_is ∙ ap (λ (ys : List def.Addend). last_signed true (remaining g ys)) (sym p.rest);
+            negated_is = any_is f g xs u o s;
           };
-    }
+    };
+  }
 
-    module _ (e : b ≡ false) (c : Bool) (hc : c ≡ (or.has && not before.or.has)) where
-      pub sort_or : c ≡ true → Sorts ws a unit or before (record { unit = before.unit; or = or; plus = before.plus; minus = before.minus; negated = n })
-      sort_or d = record {
-        sorts = λ f g xs u o s.
-            let l = left f xs this (unit_first f g xs u o s ∙ sym hb ∙ e) in
-            let p = picked g (remaining f xs) this (or_first f g xs u o s ∙ sym hc ∙ d) in
+  module _ (e : (unit && not before.unit) ≡ false) (there gone : Bool) (ht : there ≡ is_some or) (hg : is_some before.or ≡ not gone) where
+    or_test : (is_some or && not (is_some before.or)) ≡ (there && gone)
+    or_test = ap (λ (b : Bool). b && not (is_some before.or)) (sym ht) ∙ ap (λ (b : Bool). there && not b) hg ∙ ap (λ (b : Bool). there && b) (twice gone)
+      where
+        twice : (b : Bool) → not (not b) ≡ b
+        twice true = refl
+        twice false = refl
+
+    pub sort_or : (there && gone) ≡ true → SortsAs (addend_of a) unit or before (record { unit = before.unit; or = or; plus = before.plus; minus = before.minus; negated = negated })
+    sort_or d = record {
+      sorts = λ f g u o. record {
+        sorts = λ xs s.
+            let l = left f xs (addend_of a) (unit_first f g xs u o s ∙ e) in
+            let p = picked g (remaining f xs) (addend_of a) (or_first f g xs u o s ∙ or_test ∙ d) in
             let rest = ap (remaining g) l.rest ∙ p.rest in
             record {
               unit_is = s.unit_is ∙ sym l.there;
-              or_is = subst (OrHeld ws or) (sym (ap (λ (ys : List def.Addend). first_of (extract g ys)) l.rest ∙ p.first)) o;
-              plus_is = subst (λ (ys : List def.Addend). Held ws before.plus (last_signed false ys)) (sym rest) s.plus_is;
-              minus_is = subst (λ (ys : List def.Addend). Held ws before.minus (last_signed true ys)) (sym rest) s.minus_is;
-              negated_is = any_is f g xs u o s n hn;
+              or_is = o ∙ sym (ap (λ (ys : List def.Addend). first_of (extract g ys)) l.rest ∙ p.first);
+              plus_is = s.plus_is ∙ ap (last_signed false) (sym rest);
+              minus_is = s.minus_is ∙ ap (last_signed true) (sym rest);
+              negated_is = any_is f g xs u o s;
             };
+      };
+    }
+
+    module _ (d : (there && gone) ≡ false) where
+      -- it is neither: the same roles, but for the last of its sign
+      module _ (f : def.Addend → Option Expr) (g : def.Addend → Option (Expr × Expr)) (u : unit ≡ is_there (f (addend_of a))) (o : optional_trees or ≡ g (addend_of a)) (xs : List def.Addend) (s : Sorted f g xs before) where
+        rest_sorted : (plus minus : std.Option Subtree)
+            → optional_tree plus ≡ last_signed false (remaining g (remaining f xs) ++ (addend_of a ∷ [])) → optional_tree minus ≡ last_signed true (remaining g (remaining f xs) ++ (addend_of a ∷ []))
+            → Sorted f g (xs ++ (addend_of a ∷ [])) (record { unit = before.unit; or = before.or; plus = plus; minus = minus; negated = negated })
+        rest_sorted plus minus p m =
+            let l = left f xs (addend_of a) (unit_first f g xs u o s ∙ e) in
+            let k = left g (remaining f xs) (addend_of a) (or_first f g xs u o s ∙ or_test ∙ d) in
+            let rest = ap (remaining g) l.rest ∙ k.rest in
+            record {
+              unit_is = s.unit_is ∙ sym l.there;
+              or_is = s.or_is ∙ sym (ap (λ (ys : List def.Addend). first_of (extract g ys)) l.rest ∙ k.first);
+              plus_is = p ∙ ap (last_signed false) (sym rest);
+              minus_is = m ∙ ap (last_signed true) (sym rest);
+              negated_is = any_is f g xs u o s;
+            }
+
+      pub sort_minus : a.negated ≡ true → SortsAs (addend_of a) unit or before (record { unit = before.unit; or = before.or; plus = before.plus; minus = std.Some a.tree; negated = negated })
+      sort_minus k = record {
+        sorts = λ f g u o. record {
+          sorts = λ xs s.
+              rest_sorted f g u o xs s before.plus (std.Some a.tree)
+              (s.plus_is ∙ sym (last_other false (addend_of a) k (remaining g (remaining f xs))))
+              (sym (last_same true (addend_of a) k (remaining g (remaining f xs))));
+        };
       }
 
-      module _ (d : c ≡ false) (h : Named ws a) where
-        -- it is neither: the same roles, but for the last of its sign
-        module _ (f : def.Addend → Option Expr) (g : def.Addend → Option (Expr × Expr)) (xs : List def.Addend) (u : unit ≡ is_there (f this)) (o : OrHeld ws or (g this)) (s : Sorted ws f g xs before) where
-          others_more : remaining g (remaining f (xs ++ (this ∷ []))) ≡ remaining g (remaining f xs) ++ (this ∷ [])
-          others_more =
-              ap (remaining g) (left f xs this (unit_first f g xs u o s ∙ sym hb ∙ e)).rest
-              ∙ (left g (remaining f xs) this (or_first f g xs u o s ∙ sym hc ∙ d)).rest
+      pub sort_plus : a.negated ≡ false → SortsAs (addend_of a) unit or before (record { unit = before.unit; or = before.or; plus = std.Some a.tree; minus = before.minus; negated = negated })
+      sort_plus k = record {
+        sorts = λ f g u o. record {
+          sorts = λ xs s.
+              rest_sorted f g u o xs s (std.Some a.tree) before.minus
+              (sym (last_same false (addend_of a) k (remaining g (remaining f xs))))
+              (s.minus_is ∙ sym (last_other true (addend_of a) k (remaining g (remaining f xs))));
+        };
+      }
 
-          rest_sorted : (plus minus : Role)
-              → Held ws plus (last_signed false (remaining g (remaining f xs) ++ (this ∷ []))) → Held ws minus (last_signed true (remaining g (remaining f xs) ++ (this ∷ [])))
-              → Sorted ws f g (xs ++ (this ∷ [])) (record { unit = before.unit; or = before.or; plus = plus; minus = minus; negated = n })
-          rest_sorted plus minus p m =
-              let l = left f xs this (unit_first f g xs u o s ∙ sym hb ∙ e) in
-              let k = left g (remaining f xs) this (or_first f g xs u o s ∙ sym hc ∙ d) in
-              record {
-                unit_is = s.unit_is ∙ sym l.there;
-                or_is = subst (OrHeld ws before.or) (sym (ap (λ (ys : List def.Addend). first_of (extract g ys)) l.rest ∙ k.first)) s.or_is;
-                plus_is = subst (λ (ys : List def.Addend). Held ws plus (last_signed false ys)) (sym others_more) p;
-                minus_is = subst (λ (ys : List def.Addend). Held ws minus (last_signed true ys)) (sym others_more) m;
-                negated_is = any_is f g xs u o s n hn;
-              }
+pub ruleset sorting = (sort_unit, sort_or, sort_minus, sort_plus)
 
-        pub sort_minus : a.negated ≡ true → Sorts ws a unit or before (record { unit = before.unit; or = before.or; plus = before.plus; minus = its_role ws a; negated = n })
-        sort_minus k = record {
-          sorts = λ f g xs u o s.
-              rest_sorted f g xs u o s before.plus (its_role ws a)
-              (subst (Held ws before.plus) (sym (last_other false this k (remaining g (remaining f xs)))) s.plus_is)
-              (subst (Held ws (its_role ws a)) (sym (last_same true this k (remaining g (remaining f xs)))) (itself_held ws a h));
-        }
-
-        pub sort_plus : a.negated ≡ false → Sorts ws a unit or before (record { unit = before.unit; or = before.or; plus = its_role ws a; minus = before.minus; negated = n })
-        sort_plus k = record {
-          sorts = λ f g xs u o s.
-              rest_sorted f g xs u o s (its_role ws a) before.minus
-              (subst (Held ws (its_role ws a)) (sym (last_same false this k (remaining g (remaining f xs)))) (itself_held ws a h))
-              (subst (Held ws before.minus) (sym (last_other true this k (remaining g (remaining f xs)))) s.minus_is);
-        }
-
--- ---- `is_unit`, `or_role`
+-- ---- `sort_for_and`, `sort_for_xor`
 
 there_only_if : (b : Bool) (t : Expr) → b ≡ is_there (only_if b t)
 there_only_if true t = refl
 there_only_if false t = refl
 
-module _ (ws : List ℕ) (tag w : ℕ) (a : Addend) where
-  abbrev tree : Expr
-  tree = part_tree ws (its_role ws a).part
+module _ (w : ℕ) (a : SignedTree) (unit : Bool) (or : std.Option (Subtree × Subtree)) (before after : Roles) (s : SortsAs (addend_of a) unit or before after) where
+  pub sorts_for_and : unit ≡ is_masked w 1 (tree_of a.tree) → optional_trees or ≡ operands_of Or (tree_of a.tree) → Sorts (as_one w) as_or (addend_of a) before after
+  sorts_for_and u o = s.sorts (as_one w) as_or (u ∙ there_only_if (is_masked w 1 (tree_of a.tree)) (tree_of a.tree)) o
 
-  module _ (e : tag ≡ 4) where
-    four : eqb tag 4 ≡ true
-    four = eq-eqb tag 4 e
+  xor_tests : unit ≡ (a.negated && is_masked w 2 (tree_of a.tree)) → optional_trees or ≡ (if a.negated then or_in_product (is_masked w 2) (tree_of a.tree) else none)
+      → Sorts (as_minus_two w) (as_minus_twice_or w) (addend_of a) before after
+  xor_tests u o = s.sorts (as_minus_two w) (as_minus_twice_or w) (u ∙ there_only_if (a.negated && is_masked w 2 (tree_of a.tree)) (tree_of a.tree)) o
 
-    pub unit_four : (r : Bool) → r ≡ is_masked w 1 tree → r ≡ is_there (unit_by tag w (addend_of ws a))
-    unfolding unit_by
-    unit_four r h = h ∙ there_only_if (is_masked w 1 tree) tree ∙ sym (ap (λ (b : Bool). is_there (if b then as_one w (addend_of ws a) else as_minus_two w (addend_of ws a))) four)
+  pub sorts_minus : a.negated ≡ true → unit ≡ is_masked w 2 (tree_of a.tree) → optional_trees or ≡ or_in_product (is_masked w 2) (tree_of a.tree) → Sorts (as_minus_two w) (as_minus_twice_or w) (addend_of a) before after
+  sorts_minus e u o =
+      xor_tests (u ∙ sym (ap (λ (b : Bool). b && is_masked w 2 (tree_of a.tree)) e))
+      (o ∙ sym (ap (λ (b : Bool). if b then or_in_product (is_masked w 2) (tree_of a.tree) else none) e))
 
-    pub or_four : (r : Role) → OrHeld ws r (operands_of Or tree) → OrHeld ws r (or_by tag w (addend_of ws a))
-    unfolding or_by
-    or_four r h = subst (λ (b : Bool). OrHeld ws r (if b then as_or (addend_of ws a) else as_minus_twice_or w (addend_of ws a))) (sym four) h
+  pub sorts_plus : a.negated ≡ false → unit ≡ false → optional_trees or ≡ none → Sorts (as_minus_two w) (as_minus_twice_or w) (addend_of a) before after
+  sorts_plus e u o =
+      xor_tests (u ∙ sym (ap (λ (b : Bool). b && is_masked w 2 (tree_of a.tree)) e))
+      (o ∙ sym (ap (λ (b : Bool). if b then or_in_product (is_masked w 2) (tree_of a.tree) else none) e))
 
-  module _ (f : tag ≡ 4 → ⊥) where
-    not_four : eqb tag 4 ≡ false
-    not_four = ne_eqb tag 4 f
+pub ruleset sorts = (sorts_for_and, sorts_minus, sorts_plus)
 
-    unit_by_lem : is_there (unit_by tag w (addend_of ws a)) ≡ (a.negated && is_masked w 2 tree)
-    unfolding unit_by
-    unit_by_lem =
-        ap (λ (b : Bool). is_there (if b then as_one w (addend_of ws a) else as_minus_two w (addend_of ws a))) not_four
-        ∙ sym (there_only_if (a.negated && is_masked w 2 tree) tree)
+-- ---- no addend
 
-    or_by_lem : or_by tag w (addend_of ws a) ≡ (if a.negated then or_in_product (is_masked w 2) tree else none)
-    unfolding or_by
-    or_by_lem = ap (λ (b : Bool). if b then as_or (addend_of ws a) else as_minus_twice_or w (addend_of ws a)) not_four
-
-    pub unit_five : a.negated ≡ true → (r : Bool) → r ≡ is_masked w 2 tree → r ≡ is_there (unit_by tag w (addend_of ws a))
-    unit_five e r h = h ∙ sym (unit_by_lem ∙ ap (λ (b : Bool). b && is_masked w 2 tree) e)
-
-    pub unit_plus : a.negated ≡ false → false ≡ is_there (unit_by tag w (addend_of ws a))
-    unit_plus e = sym (unit_by_lem ∙ ap (λ (b : Bool). b && is_masked w 2 tree) e)
-
-    pub or_five : a.negated ≡ true → (r : Role) → OrHeld ws r (or_in_product (factor_by 5 w) tree) → OrHeld ws r (or_by tag w (addend_of ws a))
-    unfolding factor_by
-    or_five e r h = subst (OrHeld ws r) (sym (or_by_lem ∙ ap (λ (b : Bool). if b then or_in_product (is_masked w 2) tree else none) e)) h
-
-    pub or_plus : a.negated ≡ false → (p : Part) → OrHeld ws (record { has = false; part = p }) (or_by tag w (addend_of ws a))
-    unfolding OrHeldIs
-    or_plus e p = record { is = or_by_lem ∙ ap (λ (b : Bool). if b then or_in_product (is_masked w 2) tree else none) e }
-
--- ---- `sort_by_tag`
-
-pub sort_by_tag : (ws : List ℕ) (tag w : ℕ) (a : Addend) (unit : Bool) (or : Role) (before after : Roles)
-    → unit ≡ is_there (unit_by tag w (addend_of ws a)) → OrHeld ws or (or_by tag w (addend_of ws a)) → Sorts ws a unit or before after → SortsBy ws tag w a before after
-sort_by_tag ws tag w a unit or before after u o s = record { sorts = λ xs h. s.sorts (unit_by tag w) (or_by tag w) xs u o h }
-
-pub ruleset sorting = (holding, unit_four, or_four, unit_five, unit_plus, or_five, or_plus, sort_unit, sort_or, sort_minus, sort_plus, sort_by_tag)
+pub none_sorted : (f : def.Addend → Option Expr) (g : def.Addend → Option (Expr × Expr)) → Sorted f g [] no_roles
+unfolding extract last_signed any_negated
+none_sorted f g = record { unit_is = refl; or_is = refl; plus_is = refl; minus_is = refl; negated_is = refl }

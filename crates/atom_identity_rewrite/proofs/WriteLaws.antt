@@ -1,138 +1,104 @@
 -- A candidate's words, written at the front of lent ones. Assumes nothing.
-use mathlib.Core.Path.{◌≡◌, refl, sym, ap, subst, ◌∙◌}
-use mathlib.Core.Bool.{Bool, true, false}
-use mathlib.Core.List.{List, [], ◌∷◌, ◌++◌}
-use Prim.Native.Nat.{ℕ, ◌+◌, ◌-◌, ◌≤◌}
-use native.Mathlib.Omega.{arith}
-use lib.ListN.{length, take, length-append}
-use lib.Seq.{take_all}
-use mir.Syntax.{w64}
-use mir.Val.{Fits}
+use Rattle.std.specs.Prelude.{◌≡◌, refl, Bool, true, false, List, [], ◌∷◌, ◌++◌, ℕ, ◌+◌, ◌-◌, ◌≤◌, length}
+use Rattle.std.proofs.Common.{sym, ap, subst, ◌∙◌, arith, length-append}
 use borrow.Rule.Slice.PartMut.{put_mid}
-use Rattle.expr.specs.Expr.{Expr, encode}
-use Rattle.expr.specs.ExprLaws.{length_encode}
-use Rattle.expr.specs.Parts.{tail, part, Laid}
+use Rattle.expr.specs.Expr.{encode, binary_number}
+use Rattle.expr.specs.Parts.{tail, Laid}
 use Rattle.expr.specs.TailLaws.{length_tail}
-use Rattle.expr.specs.Lent.{over}
-use Rattle.expr.specs.LentLaws.{node_put, laid_length, laid_on}
-use Rattle.atom_identity_rewrite.specs.declared.parts.Part.{Part}
+use Rattle.expr.specs.Front.{Whole, tree_at}
+use Rattle.expr.specs.LentLaws.{laid_length, laid_on}
 use Rattle.atom_identity_rewrite.specs.declared.candidate.Candidate.{Candidate}
-use Rattle.atom_identity_rewrite.specs.Promises.{Standing, part_tree, second_tree, Makes, Writable, Writes}
-use Rattle.atom_identity_rewrite.proofs.StandLaws.{places, stands_length}
+use Rattle.atom_identity_rewrite.specs.Promises.{tree_of, second_tree, candidate_tree}
 
--- ---- `copy_part`
+-- ---- `put_second`
 
-module _ (ws : List ℕ) (p : Part) (x : Standing ws p) where
-  words_are : part p.start (p.start + p.len) ws ≡ encode (part_tree ws p)
-  words_are = x.exactly.words
+module _ (ws : List ℕ) (x : Whole ws) (b : Bool) where
+  long : length ws ≡ length (encode (tree_at ws))
+  long = ap length x.words
 
-  length_is : p.len ≡ length (encode (part_tree ws p))
-  length_is = stands_length ws p.start p.len (part_tree ws p) x ∙ sym (length_encode (part_tree ws p))
-
-  pub part_laid : (before after : List ℕ) → p.len ≤ length before → after ≡ over (take (length before) (part p.start (p.start + p.len) ws)) before → Laid before after (encode (part_tree ws p))
-  part_laid before after h e =
-      record { is = e ∙ ap (λ (l : List ℕ). over l before) (ap (take (length before)) words_are ∙ take_all (length before) (encode (part_tree ws p)) (omega (arith, length_is))) }
-
-  -- ---- `put_first`, `put_second`
-
-  -- behind a node's two words
-  module _ (k : ℕ) (before : List ℕ) (h : 2 + p.len ≤ length before) where
-    pub first_node : 2 ≤ length before
-    first_node = omega arith
-
-    module _ (mid : List ℕ) (l : Laid before mid (k ∷ 0 ∷ [])) where
-      same_long : length mid ≡ length before
-      same_long = laid_length before mid (k ∷ 0 ∷ []) l (omega arith)
-
-      pub first_inside : 2 ≤ length mid
-      first_inside = omega (arith, same_long)
-
-      pub first_room : p.len ≤ length (tail 2 mid)
-      first_room = omega (arith, length_tail 2 mid, same_long)
-
-      pub first_laid : (rest : List ℕ) → Laid (tail 2 mid) rest (encode (part_tree ws p)) → Laid before (put_mid 2 (length mid - 2) mid rest) ((k ∷ 0 ∷ []) ++ encode (part_tree ws p))
-      first_laid rest m = laid_on before mid (k ∷ 0 ∷ []) l 2 refl rest (encode (part_tree ws p)) m
-
-  module _ (b : Bool) (e : b ≡ true) where
-    second_words : encode (second_tree ws b p) ≡ (7 ∷ 0 ∷ []) ++ encode (part_tree ws p)
+  module _ (e : b ≡ true) where
+    turned_words : encode (second_tree b (tree_at ws)) ≡ (7 ∷ 0 ∷ []) ++ encode (tree_at ws)
     unfolding encode
-    second_words = ap (λ (c : Bool). encode (second_tree ws c p)) e
+    turned_words = ap (λ (c : Bool). encode (second_tree c (tree_at ws))) e
 
-    second_long : length (encode (second_tree ws b p)) ≡ 2 + p.len
-    second_long = ap length second_words ∙ omega (arith, length_is)
+    turned_long : length (encode (second_tree b (tree_at ws))) ≡ 2 + length ws
+    turned_long = ap length turned_words ∙ omega (arith, long)
 
-    pub turned_fits : (before : List ℕ) → length (encode (second_tree ws b p)) ≤ length before → 2 + p.len ≤ length before
-    turned_fits before h = omega (arith, second_long)
+    pub turned_count : 2 + length ws ≡ length (encode (second_tree b (tree_at ws)))
+    turned_count = sym turned_long
 
-    pub turned_laid : (before after : List ℕ) → Laid before after ((7 ∷ 0 ∷ []) ++ encode (part_tree ws p)) → Laid before after (encode (second_tree ws b p))
-    turned_laid before after l = subst (Laid before after) (sym second_words) l
+    module _ (before : List ℕ) (h : length (encode (second_tree b (tree_at ws))) ≤ length before) where
+      pub turned_node : 2 ≤ length before
+      turned_node = omega (arith, turned_long)
 
-    pub turned_count : 2 + p.len ≡ length (encode (second_tree ws b p))
-    turned_count = sym second_long
+      module _ (mid : List ℕ) (l : Laid before mid (7 ∷ 0 ∷ [])) where
+        mid_long : length mid ≡ length before
+        mid_long = laid_length before mid (7 ∷ 0 ∷ []) l (omega (arith, turned_long))
 
-  module _ (b : Bool) (e : b ≡ false) where
-    plain_words : encode (second_tree ws b p) ≡ encode (part_tree ws p)
-    plain_words = ap (λ (c : Bool). encode (second_tree ws c p)) e
+        pub turned_inside : 2 ≤ length mid
+        turned_inside = omega (arith, mid_long, turned_long)
 
-    pub plain_fits : (before : List ℕ) → length (encode (second_tree ws b p)) ≤ length before → p.len ≤ length before
-    plain_fits before h = omega (arith, ap length plain_words, length_is)
+        pub turned_room : length ws ≤ length (tail 2 mid)
+        turned_room = omega (arith, length_tail 2 mid, mid_long, turned_long)
 
-    pub plain_laid : (before after : List ℕ) → Laid before after (encode (part_tree ws p)) → Laid before after (encode (second_tree ws b p))
+        pub turned_laid : (rest : List ℕ) → Laid (tail 2 mid) rest (encode (tree_at ws))
+            → Laid before (put_mid 2 (length mid - 2) mid rest) (encode (second_tree b (tree_at ws)))
+        turned_laid rest m = subst (Laid before (put_mid 2 (length mid - 2) mid rest)) (sym turned_words) (laid_on before mid (7 ∷ 0 ∷ []) l 2 refl rest (encode (tree_at ws)) m)
+
+  module _ (e : b ≡ false) where
+    plain_words : encode (second_tree b (tree_at ws)) ≡ encode (tree_at ws)
+    plain_words = ap (λ (c : Bool). encode (second_tree c (tree_at ws))) e
+
+    pub plain_fits : (before : List ℕ) → length (encode (second_tree b (tree_at ws))) ≤ length before → length ws ≤ length before
+    plain_fits before h = omega (arith, ap length plain_words, long)
+
+    pub plain_laid : (before after : List ℕ) → Laid before after (encode (tree_at ws)) → Laid before after (encode (second_tree b (tree_at ws)))
     plain_laid before after l = subst (Laid before after) (sym plain_words) l
 
-    pub plain_count : p.len ≡ length (encode (second_tree ws b p))
-    plain_count = length_is ∙ sym (ap length plain_words)
+    pub plain_count : length ws ≡ length (encode (second_tree b (tree_at ws)))
+    plain_count = long ∙ sym (ap length plain_words)
 
-pub ruleset laying = (places, node_put, part_laid, first_node, first_inside, first_room, first_laid, turned_fits, turned_laid, turned_count, plain_fits, plain_laid, plain_count)
+pub ruleset seconds = (turned_node, turned_inside, turned_room, turned_laid, turned_count, plain_fits, plain_laid, plain_count)
 
 -- ---- `write_candidate`
 
-module _ (ws : List ℕ) (c : Candidate) where
-  -- the words of the tree that it makes
-  tree_words : (u : Expr) → Makes ws c u → encode u ≡ ((c.kind ∷ 0 ∷ []) ++ encode (part_tree ws c.first)) ++ encode (second_tree ws c.negate c.second)
+module _ (c : Candidate) (before : List ℕ) (h : length (encode (candidate_tree c)) ≤ length before) (k : ℕ) (e : k ≡ binary_number c.kind) where
+  -- the words up to the second operand
+  abbrev first_words : List ℕ
+  first_words = (k ∷ 0 ∷ []) ++ encode (tree_of c.first)
+
+  -- those of the second operand
+  abbrev second_words : List ℕ
+  second_words = encode (second_tree c.negate (tree_of c.second))
+
+  words_are : encode (candidate_tree c) ≡ first_words ++ second_words
   unfolding encode
-  tree_words u m = ap encode m.is ∙ ap (λ (k : ℕ). k ∷ 0 ∷ (encode (part_tree ws c.first) ++ encode (second_tree ws c.negate c.second))) (sym m.number)
+  words_are = ap (λ (n : ℕ). n ∷ 0 ∷ (encode (tree_of c.first) ++ second_words)) (sym e)
 
-  long : (u : Expr) → Makes ws c u → length (encode u) ≡ 2 + c.first.len + length (encode (second_tree ws c.negate c.second))
-  long u m =
-      ap length (tree_words u m) ∙ length-append ((c.kind ∷ 0 ∷ []) ++ encode (part_tree ws c.first)) (encode (second_tree ws c.negate c.second))
-      ∙ omega (arith, length_is ws c.first m.first_stands)
+  first_long : 2 + length c.first.words.now ≡ length first_words
+  first_long = omega (arith, ap length c.first.whole.words)
 
-  module _ (before : List ℕ) (w : Writable ws c (length before)) where
-    pub candidate_first : Standing ws c.first
-    candidate_first = w.makes.first_stands
+  all_long : length (encode (candidate_tree c)) ≡ 2 + length c.first.words.now + length second_words
+  all_long = ap length words_are ∙ length-append first_words second_words ∙ omega (arith, first_long)
 
-    pub candidate_second : Standing ws c.second
-    candidate_second = w.makes.second_stands
+  pub first_fits : 2 + length c.first.words.now ≤ length before
+  first_fits = omega (arith, all_long)
 
-    pub candidate_fits : 2 + c.first.len ≤ length before
-    candidate_fits = omega (arith, w.fits, long w.tree w.makes)
+  module _ (mid : List ℕ) (l : Laid before mid first_words) where
+    laid_long : length mid ≡ length before
+    laid_long = laid_length before mid first_words l (omega (arith, first_long, first_fits))
 
-    second_most : (b : Bool) → c.negate ≡ b → length (encode (second_tree ws c.negate c.second)) ≤ 2 + c.second.len
-    second_most true e = omega (arith, turned_count ws c.second candidate_second c.negate e)
-    second_most false e = omega (arith, plain_count ws c.second candidate_second c.negate e)
+    pub second_inside : 2 + length c.first.words.now ≤ length mid
+    second_inside = omega (arith, laid_long, first_fits)
 
-    pub candidate_count : length ws ≤ 1024 → (n : ℕ) → n ≡ length (encode (second_tree ws c.negate c.second)) → Fits w64 (2 + c.first.len + n)
-    candidate_count h n e = omega (arith, e, candidate_first.inside, candidate_second.inside, h, second_most c.negate refl)
+    pub second_room : length second_words ≤ length (tail (2 + length c.first.words.now) mid)
+    second_room = omega (arith, length_tail (2 + length c.first.words.now) mid, laid_long, all_long)
 
-    module _ (mid : List ℕ) (l : Laid before mid ((c.kind ∷ 0 ∷ []) ++ encode (part_tree ws c.first))) where
-      first_words : 2 + c.first.len ≡ length ((c.kind ∷ 0 ∷ []) ++ encode (part_tree ws c.first))
-      first_words = omega (arith, length_is ws c.first candidate_first)
+    pub candidate_written : (rest : List ℕ) → Laid (tail (2 + length c.first.words.now) mid) rest second_words
+        → Laid before (put_mid (2 + length c.first.words.now) (length mid - (2 + length c.first.words.now)) mid rest) (encode (candidate_tree c))
+    candidate_written rest m = subst (Laid before _) (sym words_are) (laid_on before mid first_words l (2 + length c.first.words.now) first_long rest second_words m)
 
-      mid_long : length mid ≡ length before
-      mid_long = laid_length before mid _ l (omega (arith, first_words, candidate_fits))
+  pub candidate_count : (n : ℕ) → n ≡ length second_words → 2 + length c.first.words.now + n ≡ length (encode (candidate_tree c))
+  candidate_count n m = ap (λ (i : ℕ). 2 + length c.first.words.now + i) m ∙ sym all_long
 
-      pub second_inside : 2 + c.first.len ≤ length mid
-      second_inside = omega (arith, mid_long, candidate_fits)
-
-      pub second_room : length (encode (second_tree ws c.negate c.second)) ≤ length (tail (2 + c.first.len) mid)
-      second_room = omega (arith, length_tail (2 + c.first.len) mid, mid_long, w.fits, long w.tree w.makes)
-
-      module _ (rest : List ℕ) (m : Laid (tail (2 + c.first.len) mid) rest (encode (second_tree ws c.negate c.second))) (n : ℕ) (e : n ≡ length (encode (second_tree ws c.negate c.second))) where
-        pub candidate_written : Writes ws c before (put_mid (2 + c.first.len) (length mid - (2 + c.first.len)) mid rest) (2 + c.first.len + n)
-        candidate_written = record {
-          laid = λ u k. subst (Laid before _) (sym (tree_words u k)) (laid_on before mid _ l (2 + c.first.len) first_words rest _ m);
-          count = λ u k. omega (arith, e, long u k);
-        }
-
-pub ruleset writing = (places, candidate_first, candidate_second, candidate_fits, second_inside, second_room, candidate_count, candidate_written)
+pub ruleset writing = (first_fits, second_inside, second_room, candidate_written, candidate_count)

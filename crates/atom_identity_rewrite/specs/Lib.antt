@@ -1,3 +1,5 @@
 pub mod Calls
 pub mod Answers
+pub mod Places
+pub mod PlacesLaws
 pub mod Promises

@@ -1,14 +1,17 @@
-// The addends of a sum. They are gathered in an array by value, which is copied into a list that is lent to the one function that reads it.
-ghost use Rattle.std.specs.Prelude.{◌≡◌, ◌++◌, ◌%◌, ◌≤◌, ◌<◌, length, take, drop, get_or};
-ghost use Rattle.expr.specs.Front.{Starts, Whole, tree_at};
+// The addends of a sum. They are gathered in an array by value, which one function copies into a lent list and another reads: document 01's form
+// for lists of structs.
+ghost use Rattle.std.specs.Prelude.{◌≡◌, ◌++◌, ◌%◌, ◌≤◌, length, take, drop};
+ghost use Rattle.expr.specs.Front.{Starts, tree_at};
 ghost use Rattle.expr.specs.Expr.{encode};
-ghost use Rattle.atom_identity_rewrite.specs.Promises.{no_addend, IsFlat, Addended, Carried};
+ghost use Rattle.rewriting.specs.AtomIdentityRewrite.{flatten_addends};
+ghost use Rattle.atom_identity_rewrite.specs.Places.{AddendsAre};
+ghost use Rattle.atom_identity_rewrite.specs.PlacesLaws.{AddendsAre-prop};
+ghost use Rattle.atom_identity_rewrite.specs.Promises.{addend_of, placed_addend, Addended, Named, Folded, ReadAll};
 
-use crate::reading;
-use crate::reading::Reading;
-use expr::{Counted, kind};
+use crate::subtree::Subtree;
+use expr::kind;
 
-// A subtree of the lent words that is added or, where `negated`, subtracted.
+// The place of an addend's subtree in the lent words, and whether it is subtracted.
 #[derive(Clone, Copy)]
 pub(crate) struct Addend {
     pub start: usize,
@@ -16,11 +19,22 @@ pub(crate) struct Addend {
     pub negated: bool,
 }
 
-// The first `count` of the list.
+// A subtree that is added or, where `negated`, subtracted.
 #[derive(Clone, Copy)]
-pub(crate) struct Addends {
-    pub list: [Addend; 256],
+pub(crate) struct SignedTree<'a> {
+    pub tree: Subtree<'a>,
+    pub negated: bool,
+}
+
+// The addends of a tree: the first `count` of the list. An array by value, as memory is fixed.
+#[derive(Clone, Copy)]
+pub(crate) struct Addends<'a> {
+    pub node: Subtree<'a>,
+    list: [Addend; 256],
     pub count: usize,
+    ghost few: { count ≤ 256 },
+    ghost counts: { count ≡ length (flatten_addends (tree_at node.words.now)) },
+    ghost are: { AddendsAre node.words.now (take count list) (flatten_addends (tree_at node.words.now)) } by { AddendsAre-prop node.words.now (take count list) (flatten_addends (tree_at node.words.now)) },
 }
 
 // How many words the tree has that `words` begins with. They are a whole number of nodes, as `expr::span` refuses others.
@@ -28,19 +42,16 @@ fn length_of(words: &[u64]) -> usize
     requires { Starts words.now × (length words.now % 2 ≡ 0) × (length words.now ≤ 1024) }
     ensures { result ≡ length (encode (tree_at words.now)) }
 {
-    match expr::span(words) {
-        Counted::Count(n) => n,
-        // a tree's words are not refused
-        Counted::Refused(_) => 0,
-    }
+    // a tree's words are not refused
+    expr::span(words).unwrap()
 }
 
-// The addends of the tree that the words are, first to last. `push_addend`'s recursion is a loop over the subtrees that are due: handing the array
-// on by value would copy it at every node.
-pub(crate) fn flatten_addends(words: &[u64]) -> Addends
-    requires { Whole words.now × (length words.now ≤ 1024) }
-    ensures { IsFlat words.now result }
+// The addends of the tree, first to last. `push_addend`'s recursion is a loop over the subtrees that are due, and their signs stand in an array
+// with a count beside it, as memory is fixed.
+pub(crate) fn flatten_addends<'a>(node: Subtree<'a>) -> Addends<'a>
+    ensures { tree_at result.node.words.now ≡ tree_at node.entry.words.now }
 {
+    let words = node.words;
     let none = Addend {
         start: 0,
         len: 0,
@@ -53,74 +64,84 @@ pub(crate) fn flatten_addends(words: &[u64]) -> Addends
     let mut due = 1;
     let mut start = 0;
     while due > 0 {
-        let kind = words[start];
         let top = due - 1;
         let negated = signs[top];
-        if kind == kind::ADD {
-            // the left operand is next, the right one keeps the place
-            signs[due] = negated;
-            due += 1;
-            start += 2;
-        } else if kind == kind::NEG {
-            signs[top] = !negated;
-            start += 2;
-        } else {
-            let len = length_of(&words[start..]);
-            list[count] = Addend {
-                start,
-                len,
-                negated,
-            };
-            count += 1;
-            due = top;
-            start += len;
+        match words[start] {
+            kind::ADD => {
+                // the left operand is next, the right one keeps the place
+                signs[due] = negated;
+                due += 1;
+                start += 2;
+            }
+            kind::NEG => {
+                signs[top] = !negated;
+                start += 2;
+            }
+            _ => {
+                let len = length_of(&words[start..]);
+                list[count] = Addend {
+                    start,
+                    len,
+                    negated,
+                };
+                count += 1;
+                due = top;
+                start += len;
+            }
         }
     }
-    Addends { list, count }
-}
-
-// The addend at a place of the array.
-fn nth(all: Addends, at: usize) -> Addend
-    requires { at < 256 }
-    ensures { result ≡ get_or all.list at no_addend }
-{
-    let list = all.list;
-    list[at]
+    Addends { node, list, count }
 }
 
 // The only function that fills the lent list: it copies the addends that are in use to its front.
-fn fill(out: &mut [Addend], all: Addends)
-    requires { (all.count ≤ 256) × (all.count ≤ length out.old) }
-    ensures { out.new ≡ take all.count all.list ++ drop all.count out.old }
+fn fill(out: &mut [Addend], all: &Addends<'_>)
+    requires { all.now.count ≤ length out.old }
+    ensures { out.new ≡ take all.now.count all.now.list ++ drop all.now.count out.old }
 {
     let n = all.count;
-    let mut i = 0;
-    while i < n {
-        let a = nth(all, i);
-        out[i] = a;
-        i += 1;
-    }
+    out[0..n].copy_from_slice(&all.list[0..n]);
 }
 
-// The only function that reads the lent list: it hands its first n addends to `reading::step`, one after the other.
-fn scan(words: &[u64], list: &[Addend], n: usize, s: Reading) -> Reading
-    requires { (n ≤ length list.now) × (length words.now ≤ 1024) × Addended words.now (take n list.now) }
-    ensures { Carried words.now (take n list.now) s result }
+// The addend's own subtree.
+fn signed_tree<'a>(words: &'a [u64], a: Addend) -> SignedTree<'a>
+    requires { Named words.now a × (length words.now ≤ 1024) }
+    ensures { addend_of result ≡ placed_addend words.now a }
 {
-    let mut t = s;
-    let mut at = 0;
-    while at < n {
-        let a = list[at];
-        t = reading::step(words, t, a);
-        at += 1;
+    let end = a.start + a.len;
+    SignedTree {
+        tree: Subtree {
+            words: &words[a.start..end],
+        },
+        negated: a.negated,
     }
-    t
 }
 
-// What reading the addends makes of s. The list is lent to `fill` and then to `scan`.
-pub(crate) fn read_addends(words: &[u64], all: Addends, s: Reading) -> Reading
-    requires { (all.count ≤ 256) × (length words.now ≤ 1024) × Addended words.now (take all.count all.list) }
-    ensures { Carried words.now (take all.count all.list) s result }
+// The only function that reads the lent list: it hands its addends to `read`, one after the other.
+fn scan<'a, S, F: Fn(S, SignedTree<'a>) -> S>(
+    words: &'a [u64],
+    list: &[Addend],
+    start: S,
+    read: F,
+) -> S
+    requires addends { Addended words.now list.now × (length words.now ≤ 1024) }
+    requires calls { F.IsAlwaysCallable read }
+    ensures { ReadAll words.now list.now (F.post read) start result }
+{
+    let mut state = start;
+    for a in list {
+        state = read(state, signed_tree(words, *a));
+    }
+    state
+}
+
+// What reading the addends makes of `start`. The list is lent to `fill` and then to `scan`.
+pub(crate) fn read_addends<'a, S, F: Fn(S, SignedTree<'a>) -> S>(
+    all: &Addends<'a>,
+    start: S,
+    read: F,
+) -> S
+    requires { F.IsAlwaysCallable read }
+    ensures { Folded (F.post read) start (flatten_addends (tree_at all.now.node.words.now)) result }
 {
     let n = all.count;
     let none = Addend {
@@ -130,5 +151,5 @@ pub(crate) fn read_addends(words: &[u64], all: Addends, s: Reading) -> Reading
     };
     let mut list = [none; 256];
     fill(&mut list, all);
-    scan(words, &list, n, s)
+    scan(all.node.words, &list[0..n], start, read)
 }

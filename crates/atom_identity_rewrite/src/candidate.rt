@@ -1,78 +1,42 @@
 // A candidate, decided with nothing written, and the one that is asked for by number.
-ghost use Rattle.std.specs.Prelude.{◌≡◌};
-ghost use Rattle.atom_identity_rewrite.specs.Promises.{Offers, asked};
+ghost use Rattle.rewriting.specs.AtomIdentityRewrite.{to_list};
+ghost use Rattle.atom_identity_rewrite.specs.Answers.{tag_number};
+ghost use Rattle.atom_identity_rewrite.specs.Promises.{made, OffersAll};
 
-use crate::parts::Part;
+use crate::Tag;
+use crate::subtree::Subtree;
+use expr::kind::Binary;
 
-// And or Xor, by its number, of two subtrees; where `negate`, of the first and a Not over the second.
+// And or Xor of two subtrees; where `negate`, of the first and a Not over the second.
 #[derive(Clone, Copy)]
-pub(crate) struct Candidate {
-    pub kind: u64,
-    pub first: Part,
+pub(crate) struct Candidate<'a> {
+    pub kind: Binary,
+    pub first: Subtree<'a>,
     pub negate: bool,
-    pub second: Part,
+    pub second: Subtree<'a>,
 }
 
-// What a matcher answers.
+// The candidate that is asked for, with its tag, or how many are left to pass over before it.
 #[derive(Clone, Copy)]
-pub(crate) enum Match {
-    None,
-    Some(Candidate),
-}
-
-// The candidate that is asked for, where it was `found`, with its tag; else how many are `left` to pass over before it.
-#[derive(Clone, Copy)]
-pub(crate) struct Offer {
-    pub left: usize,
-    pub found: bool,
-    pub tag: u64,
-    pub candidate: Candidate,
+pub(crate) enum Offer<'a> {
+    Left(usize),
+    Found(Tag, Candidate<'a>),
 }
 
 // The offer after a matcher's answer: as it was where there is none or it was found before; else found, or one fewer to pass over.
-pub(crate) fn with_match(asked: Offer, tag: u64, m: Match) -> Offer
-    ensures { Offers asked tag m result }
+pub(crate) fn with_match<'a>(asked: Offer<'a>, tag: Tag, m: Option<Candidate<'a>>) -> Offer<'a>
+    ensures { OffersAll (tag_number tag) (to_list (made m.entry)) asked.entry result }
 {
-    match m {
-        Match::None => asked,
-        Match::Some(candidate) => {
-            if asked.found {
-                return asked;
-            }
-            if asked.left != 0 {
-                let last = asked.candidate;
-                return Offer {
-                    left: asked.left - 1,
-                    found: false,
-                    tag: 0,
-                    candidate: last,
-                };
-            }
-            Offer {
-                left: 0,
-                found: true,
-                tag,
-                candidate,
-            }
-        }
-    }
-}
-
-// The offer for candidate `number` before any matcher.
-pub(crate) fn asked_for(number: usize) -> Offer
-    ensures { result ≡ asked number }
-{
-    let none = Part { start: 0, len: 0 };
-    let candidate = Candidate {
-        kind: 0,
-        first: none,
-        negate: false,
-        second: none,
+    let Some(candidate) = m else {
+        return asked;
     };
-    Offer {
-        left: number,
-        found: false,
-        tag: 0,
-        candidate,
+    match asked {
+        Offer::Found(_, _) => asked,
+        Offer::Left(left) => {
+            if left == 0 {
+                return Offer::Found(tag, candidate);
+            }
+            Offer::Left(left - 1)
+        }
     }
 }

@@ -1,233 +1,124 @@
 // What is kept while the addends are read, one after the other.
-ghost use Rattle.std.specs.Prelude.{◌≡◌, ◌&&◌, ◌||◌, not, ◌≤◌, length};
-ghost use Rattle.rewriting.specs.AtomIdentityRewrite.{is_there, lax_and, lax_xor};
-ghost use Rattle.atom_identity_rewrite.specs.Promises.{Named, addend_of, OrHeld, unit_by, or_by, Sorts, SortsBy, OffersAll, LaxBy, Carries, nothing_read};
+ghost use Rattle.std.specs.Prelude.{◌≡◌, ◌&&◌};
+ghost use Rattle.rewriting.specs.AtomIdentityRewrite.{is_there, is_masked, as_one, as_or, as_minus_two, as_minus_twice_or, lax_and, lax_xor};
+ghost use Rattle.atom_identity_rewrite.specs.Promises.{tree_of, addend_of, no_roles, SortsAs, Sorts, OffersAll};
 
-use crate::addends::Addend;
+use crate::addends::SignedTree;
 use crate::candidate::Offer;
-use crate::parts::{Part, Role};
-use crate::{matchers, parts};
+use crate::kinds::Factor;
+use crate::matchers;
+use crate::subtree::Subtree;
+use expr::kind::Binary;
 
-// The roles of addends in tags 4 and 5: the constant, the Or, and of the others the last that is added and the last that is subtracted.
+// The roles of addends in tags 4 and 5: the constant, the Or by its operands, and of the others the last that is added and the last that is subtracted.
 #[derive(Clone, Copy)]
-pub(crate) struct Roles {
+pub(crate) struct Roles<'a> {
     pub unit: bool,
-    pub or: Role,
-    pub plus: Role,
-    pub minus: Role,
+    pub or: Option<(Subtree<'a>, Subtree<'a>)>,
+    pub plus: Option<Subtree<'a>>,
+    pub minus: Option<Subtree<'a>>,
     // whether any addend is subtracted
     pub negated: bool,
 }
 
-// The tag and the width that the addends are read for. Tags 4 and 5 keep the roles, tags 6 and 7 the candidate that is asked for.
-#[derive(Clone, Copy)]
-pub(crate) struct Reading {
-    pub tag: u64,
-    pub width: u32,
-    pub roles: Roles,
-    pub offer: Offer,
-}
-
-// Nothing was read yet.
-pub(crate) fn start(tag: u64, width: u32, offer: Offer) -> Reading
-    ensures { result ≡ nothing_read tag width offer }
-{
-    let none = Role {
-        has: false,
-        part: Part { start: 0, len: 0 },
-    };
-    let roles = Roles {
-        unit: false,
-        or: none,
-        plus: none,
-        minus: none,
-        negated: false,
-    };
-    Reading {
-        tag,
-        width,
-        roles,
-        offer,
+impl<'a> Roles<'a> {
+    // Of no addend.
+    pub(crate) fn none() -> Roles<'a>
+        ensures { result ≡ no_roles }
+    {
+        Roles {
+            unit: false,
+            or: None,
+            plus: None,
+            minus: None,
+            negated: false,
+        }
     }
 }
 
 // ---- tags 4 and 5
 
-// Whether the addend is the constant of the tag: 1 for tag 4, -2 for tag 5.
-fn is_unit(words: &[u64], tag: u64, width: u32, a: Addend) -> bool
-    requires { Named words.now a × (length words.now ≤ 1024) }
-    ensures { result ≡ is_there (unit_by tag width (addend_of words.now a)) }
+// The roles with one addend more, of which is known whether it is the constant, and the Or that it is or has.
+fn sort<'a>(
+    before: Roles<'a>,
+    a: SignedTree<'a>,
+    unit: bool,
+    or: Option<(Subtree<'a>, Subtree<'a>)>,
+) -> Roles<'a>
+    ensures { SortsAs (addend_of a.entry) unit or.entry before.entry result }
 {
-    let part = Part {
-        start: a.start,
-        len: a.len,
-    };
-    if tag == 4 {
-        return parts::is_masked(words, part, 1, width);
+    let negated = before.negated | a.negated;
+    if unit & !before.unit {
+        return Roles {
+            unit: true,
+            negated,
+            ..before
+        };
     }
+    if or.is_some() & before.or.is_none() {
+        return Roles {
+            or,
+            negated,
+            ..before
+        };
+    }
+    let this = Some(a.tree);
     if a.negated {
-        return parts::is_masked(words, part, 2, width);
+        return Roles {
+            minus: this,
+            negated,
+            ..before
+        };
     }
-    false
+    Roles {
+        plus: this,
+        negated,
+        ..before
+    }
 }
 
-// The Or of the tag: the addend itself for tag 4, and for tag 5 that in -2 times an Or.
-fn or_role(words: &[u64], tag: u64, width: u32, a: Addend) -> Role
-    requires { Named words.now a × (length words.now ≤ 1024) }
-    ensures { OrHeld words.now result (or_by tag width (addend_of words.now a)) }
+// The roles with one addend more, as tag 4 reads it: the constant is 1, and the Or is the addend itself.
+pub(crate) fn sort_for_and<'a>(width: u32, roles: Roles<'a>, a: SignedTree<'a>) -> Roles<'a>
+    ensures { Sorts (as_one width) as_or (addend_of a.entry) roles.entry result }
 {
-    let part = Part {
-        start: a.start,
-        len: a.len,
-    };
-    if tag == 4 {
-        return parts::or_node(words, part);
-    }
-    if a.negated {
-        return parts::or_in_product(words, 5, width, part);
-    }
-    Role { has: false, part }
+    let unit = a.tree.is_masked(1, width);
+    let or = a.tree.operands(Binary::Or);
+    sort(roles, a, unit, or)
 }
 
-// A function, so that its two arms meet outside its caller, whose proof would else have to take them apart.
-fn either(a: bool, b: bool) -> bool
-    ensures { result ≡ (a || b) }
+// As tag 5 reads it: the constant is -2, and the Or is that in -2 times an Or.
+pub(crate) fn sort_for_xor<'a>(width: u32, roles: Roles<'a>, a: SignedTree<'a>) -> Roles<'a>
+    ensures { Sorts (as_minus_two width) (as_minus_twice_or width) (addend_of a.entry) roles.entry result }
 {
-    if a {
-        return true;
+    if !a.negated {
+        return sort(roles, a, false, None);
     }
-    b
-}
-
-// Whether it is so, and was not before; a function for the same reason.
-fn only_now(now: bool, before: bool) -> bool
-    ensures { result ≡ (now && not before) }
-{
-    if now {
-        return !before;
-    }
-    false
-}
-
-// The roles with one addend more, of which is known whether it is the constant, and the Or.
-fn sort(words: &[u64], roles: Roles, a: Addend, unit: bool, or: Role) -> Roles
-    requires { Named words.now a }
-    ensures { Sorts words.now a unit or roles result }
-{
-    let or_before = roles.or;
-    let mut next = roles;
-    next.negated = either(roles.negated, a.negated);
-    if only_now(unit, roles.unit) {
-        next.unit = true;
-        return next;
-    }
-    if only_now(or.has, or_before.has) {
-        next.or = or;
-        return next;
-    }
-    let this = Role {
-        has: true,
-        part: Part {
-            start: a.start,
-            len: a.len,
-        },
-    };
-    if a.negated {
-        next.minus = this;
-    } else {
-        next.plus = this;
-    }
-    next
-}
-
-// The roles with one addend more, which is tested for the constant and the Or of the tag.
-fn sort_by_tag(words: &[u64], tag: u64, width: u32, roles: Roles, a: Addend) -> Roles
-    requires { Named words.now a × (length words.now ≤ 1024) }
-    ensures { SortsBy words.now tag width a roles result }
-{
-    let unit = is_unit(words, tag, width, a);
-    let or = or_role(words, tag, width, a);
-    sort(words, roles, a, unit, or)
+    let unit = a.tree.is_masked(2, width);
+    let or = a.tree.or_in_product(Factor::Two(width));
+    sort(roles, a, unit, or)
 }
 
 // ---- tags 6 and 7
 
 // The candidates of a lax And: of an Or that is added, the left Not first.
-fn lax_and(words: &[u64], asked: Offer, a: Addend) -> Offer
-    requires { Named words.now a × (length words.now ≤ 1024) }
-    ensures { OffersAll words.now 6 (lax_and (addend_of words.now a)) asked result }
+pub(crate) fn lax_and<'a>(asked: Offer<'a>, a: SignedTree<'a>) -> Offer<'a>
+    ensures { OffersAll 6 (lax_and (addend_of a.entry)) asked.entry result }
 {
     if a.negated {
         return asked;
     }
-    let or = parts::or_node(
-        words,
-        Part {
-            start: a.start,
-            len: a.len,
-        },
-    );
-    if !or.has {
-        return asked;
+    match a.tree.operands(Binary::Or) {
+        Some((l, r)) => matchers::offer_ands(asked, l, r),
+        None => asked,
     }
-    let part = or.part;
-    matchers::offer_ands(words, asked, part)
 }
 
 // The candidates of a lax Xor: of an Or, or of one in a product with a Constant, the right Not first.
-fn lax_xor(words: &[u64], width: u32, asked: Offer, a: Addend) -> Offer
-    requires { Named words.now a × (length words.now ≤ 1024) }
-    ensures { OffersAll words.now 7 (lax_xor (addend_of words.now a)) asked result }
+pub(crate) fn lax_xor<'a>(asked: Offer<'a>, a: SignedTree<'a>) -> Offer<'a>
+    ensures { OffersAll 7 (lax_xor (addend_of a.entry)) asked.entry result }
 {
-    let or = parts::or_inside(
-        words,
-        width,
-        Part {
-            start: a.start,
-            len: a.len,
-        },
-    );
-    if !or.has {
-        return asked;
-    }
-    let part = or.part;
-    matchers::offer_xors(words, asked, part)
-}
-
-// The offer after the candidates of one addend: the lax Ands for tag 6, the lax Xors for tag 7.
-fn lax_by_tag(words: &[u64], tag: u64, width: u32, asked: Offer, a: Addend) -> Offer
-    requires { Named words.now a × (length words.now ≤ 1024) }
-    ensures { LaxBy words.now tag (addend_of words.now a) asked result }
-{
-    if tag == 6 {
-        return lax_and(words, asked, a);
-    }
-    lax_xor(words, width, asked, a)
-}
-
-// ---- one addend more
-
-// What is kept after one addend more: other roles for tags 4 and 5, another offer for tags 6 and 7.
-pub(crate) fn step(words: &[u64], s: Reading, a: Addend) -> Reading
-    requires { Named words.now a × (length words.now ≤ 1024) }
-    ensures { Carries words.now a s result }
-{
-    let roles = s.roles;
-    let offer = s.offer;
-    if s.tag < 6 {
-        let next = sort_by_tag(words, s.tag, s.width, roles, a);
-        return Reading {
-            tag: s.tag,
-            width: s.width,
-            roles: next,
-            offer,
-        };
-    }
-    let next = lax_by_tag(words, s.tag, s.width, offer, a);
-    Reading {
-        tag: s.tag,
-        width: s.width,
-        roles,
-        offer: next,
+    match a.tree.or_inside() {
+        Some((l, r)) => matchers::offer_xors(asked, l, r),
+        None => asked,
     }
 }

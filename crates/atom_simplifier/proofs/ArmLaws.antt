@@ -1,17 +1,17 @@
 -- The arms of the fold, in the order of the tests. Assumes nothing.
-use mathlib.Core.Path.{◌≡◌, sym, ap, subst, ◌∙◌}
+use mathlib.Core.Path.{◌≡◌, sym, ap, ◌∙◌}
 use mathlib.Core.Bool.{Bool, true, false}
 use Prim.Native.Nat.{ℕ, ◌≤◌}
 use lib.Bits.{bit_and, bit_or, bit_xor}
-use borrow.Author.Tests.{ne_eqb}
 use Rattle.arith.specs.Bv.{ones}
 use Rattle.arith.specs.Arith.{bitmask_of, low_bits}
 use Rattle.arith.specs.ArithLaws.{mask_is, low_is}
-use Rattle.expr.specs.Expr.{And, Or, Expr}
+use Rattle.expr.specs.declared.kind.Binary.TheVariants.{And, Or}
+use Rattle.expr.specs.Expr.{Expr}
 use Rattle.rewriting.specs.AtomSimplifier.{constant, are_complements, contains_operand, Bitwise, and, or, xor, word_of, constant_arms, arms, folded_word}
 use Rattle.atom_simplifier.specs.declared.fold.Arm.{Arm}
 use Rattle.atom_simplifier.specs.declared.fold.Arm.TheVariants.{Left, Right, Constant, Node}
-use Rattle.atom_simplifier.specs.Promises.{is_constant, either_constant, arm_tree, bitwise_of}
+use Rattle.atom_simplifier.specs.Promises.{is_constant, either_constant, arm_tree}
 
 -- ---- 0 and all ones
 
@@ -124,42 +124,19 @@ module _ (w : ℕ) (t u : Expr) (a : Bool) (f : a ≡ are_complements w t u) whe
         unfolding arms
         or_last e r j = simp (sym f ∙ d, sym g ∙ k, sym i ∙ e) j
 
--- ---- by the kind's number
+-- ---- `folded_word`
 
-module _ (k : ℕ) where
-  and_number : k ≡ 4 → bitwise_of k ≡ and
-  and_number e = ap bitwise_of e
+module _ (w : ℕ) (h : w ≤ 64) (d c r : ℕ) where
+  masked : (op : Bitwise) → r ≡ low_bits (word_of op d c) w → r ≡ folded_word w op d c
+  masked op f = f ∙ low_is w h (word_of op d c)
 
-  or_number : k ≡ 5 → bitwise_of k ≡ or
-  or_number e = ap bitwise_of e
+  pub folded_and : r ≡ low_bits (bit_and d c) w → r ≡ folded_word w and d c
+  folded_and = masked and
 
-  xor_number : (k ≡ 4 → ⊥) → (k ≡ 5 → ⊥) → bitwise_of k ≡ xor
-  xor_number f g = simp (ne_eqb k 4 f, ne_eqb k 5 g)
+  pub folded_or : r ≡ low_bits (bit_or d c) w → r ≡ folded_word w or d c
+  folded_or = masked or
 
-  module _ (w : ℕ) (t u : Expr) (r : Arm) where
-    by_number : (op : Bitwise) → bitwise_of k ≡ op → arm_tree op t u r ≡ arms w op t u → arm_tree (bitwise_of k) t u r ≡ arms w (bitwise_of k) t u
-    by_number op e h = subst (λ (b : Bitwise). arm_tree b t u r ≡ arms w b t u) (sym e) h
+  pub folded_xor : r ≡ low_bits (bit_xor d c) w → r ≡ folded_word w xor d c
+  folded_xor = masked xor
 
-    pub arms_and : k ≡ 4 → arm_tree and t u r ≡ arms w and t u → arm_tree (bitwise_of k) t u r ≡ arms w (bitwise_of k) t u
-    arms_and e = by_number and (and_number e)
-
-    pub arms_or : k ≡ 5 → arm_tree or t u r ≡ arms w or t u → arm_tree (bitwise_of k) t u r ≡ arms w (bitwise_of k) t u
-    arms_or e = by_number or (or_number e)
-
-    pub arms_xor : (k ≡ 4 → ⊥) → (k ≡ 5 → ⊥) → arm_tree xor t u r ≡ arms w xor t u → arm_tree (bitwise_of k) t u r ≡ arms w (bitwise_of k) t u
-    arms_xor f g = by_number xor (xor_number f g)
-
-  module _ (w : ℕ) (h : w ≤ 64) (d c r : ℕ) where
-    masked : (op : Bitwise) → bitwise_of k ≡ op → r ≡ low_bits (word_of op d c) w → r ≡ folded_word w (bitwise_of k) d c
-    masked op e f = f ∙ low_is w h (word_of op d c) ∙ ap (λ (b : Bitwise). folded_word w b d c) (sym e)
-
-    pub folded_and : k ≡ 4 → r ≡ low_bits (bit_and d c) w → r ≡ folded_word w (bitwise_of k) d c
-    folded_and e = masked and (and_number e)
-
-    pub folded_or : k ≡ 5 → r ≡ low_bits (bit_or d c) w → r ≡ folded_word w (bitwise_of k) d c
-    folded_or e = masked or (or_number e)
-
-    pub folded_xor : (k ≡ 4 → ⊥) → (k ≡ 5 → ⊥) → r ≡ low_bits (bit_xor d c) w → r ≡ folded_word w (bitwise_of k) d c
-    folded_xor f g = masked xor (xor_number f g)
-
-pub ruleset arm = (and_none, and_all, all_and, and_node, or_none, none_or, or_all, or_node, xor_none, none_xor, xor_node, and_complements, or_complements, xor_complements, xor_last, and_left, and_right, and_last, or_left, or_right, or_last, arms_and, arms_or, arms_xor, folded_and, folded_or, folded_xor)
+pub ruleset arm = (and_none, and_all, all_and, and_node, or_none, none_or, or_all, or_node, xor_none, none_xor, xor_node, and_complements, or_complements, xor_complements, xor_last, and_left, and_right, and_last, or_left, or_right, or_last, folded_and, folded_or, folded_xor)

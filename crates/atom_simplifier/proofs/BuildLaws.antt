@@ -10,18 +10,18 @@ use mir.Facts.{yes_and}
 use mir.Syntax.{w64}
 use mir.Val.{Fits}
 use borrow.Rule.Slice.PartMut.{put_mid}
-use Rattle.expr.specs.declared.refusal.Refusal.{Refusal}
 use Rattle.expr.specs.declared.Arity.{Arity}
 use Rattle.expr.specs.declared.Arity.TheVariants as arity
 use Rattle.expr.specs.Outcome.{accepted}
-use Rattle.expr.specs.Expr.{Binary, Expr, unary, binary, unary_number, unary_operand, binary_number, encode, nodes}
+use Rattle.expr.specs.declared.kind.Binary.{Binary}
+use Rattle.expr.specs.Expr.{Expr, unary, binary, unary_number, unary_operand, binary_number, encode, nodes}
 use Rattle.expr.specs.ExprLaws.{nodes_pos, length_encode}
 use Rattle.expr.specs.Parse.{arity_of, operand_ok, operands_ok}
-use Rattle.expr.specs.Answers.{arity_outcome}
+use Rattle.expr.specs.Answers.{children_of}
 use Rattle.expr.specs.Parts.{tail, Laid}
 use Rattle.expr.specs.TailLaws.{length_tail}
 use Rattle.expr.specs.Front.{Starts, tree_at, left_of}
-use Rattle.expr.specs.FrontLaws.{UnaryNode, BinaryNode, leaf_node, has_node, has_kind, child_starts, no_kind}
+use Rattle.expr.specs.FrontLaws.{UnaryNode, BinaryNode, leaf_node, has_node, has_kind, child_starts, has_arity, known_arity}
 use Rattle.expr.specs.PartLaws.{tail_short, starts_front}
 use Rattle.expr.specs.LentLaws.{put_tail, laid_length}
 use Rattle.rewriting.specs.AtomSimplifier.{first_rewrite}
@@ -77,7 +77,7 @@ ends_short w ws before after read len count i = omega (arith, i.comes.len_is, i.
 
 -- ---- a leaf
 
-module _ (w : ℕ) (ws : List ℕ) (s : Starts ws) (v : Arity) (h : arity_outcome v ≡ arity_of (get_or ws 0 0)) where
+module _ (w : ℕ) (ws : List ℕ) (s : Starts ws) (v : Arity) (h : accepted (children_of v) ≡ arity_of (get_or ws 0 0)) where
   pub leaf_built : v ≡ arity.Zero → (before first : List ℕ) → Laid before first (loaded w (get_or ws 0 0) (get_or ws 1 0)) → length (encode (tree_at ws)) ≤ length before → IsBuilt w ws before first 2 2 0
   unfolding encode
   leaf_built e before first l r =
@@ -97,10 +97,6 @@ module _ (w : ℕ) (ws : List ℕ) (s : Starts ws) (v : Arity) (h : arity_outcom
         };
         read_is = sym (ap (λ (t : Expr). length (encode t)) n.is);
       }
-
-  -- no tree has an unknown kind
-  pub not_built : (r : Refusal) → v ≡ arity.Refused r → (before after : List ℕ) (read len count : ℕ) → IsBuilt w ws before after read len count
-  not_built r e before after read len count = (no_kind ws v h s r e 0 (λ t. IsBuilt w ws before after read len count)).holds (tree_at ws) (starts_front ws s)
 
 -- what was built over the loaded words was built over the words before
 pub built_before : (w : ℕ) (ws before first after : List ℕ) (read len count : ℕ) → length first ≡ length before → IsBuilt w ws first after read len count → IsBuilt w ws before after read len count
@@ -395,7 +391,7 @@ part_right_falls ws s from m e h = omega (arith, length_tail from ws, has_node w
 pub two_least : (n : ℕ) → 2 ≤ 2 + n
 two_least n = omega arith
 
-pub ruleset building = (has_node, has_kind, own_room, is_loaded, loaded_long, loaded_room, leaf_built, arity_one, arity_two, built_before, not_built, node_falls)
+pub ruleset building = (has_node, has_kind, own_room, is_loaded, loaded_long, loaded_room, leaf_built, arity_one, arity_two, built_before, has_arity, known_arity, node_falls)
 
 pub ruleset building_one = (has_node, head_long, child_begins, tail_short, child_room, child_ready, child_arity, child_len_fits, child_read_fits, child_count_fits, one_long, one_built, part_falls, two_least)
 

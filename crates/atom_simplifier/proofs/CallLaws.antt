@@ -11,15 +11,12 @@ use mir.Syntax.{w64}
 use mir.Val.{Fits}
 use borrow.Author.Tests.{lt-ltb, le-ltb}
 use Rattle.std.specs.Prelude.{if◌then◌else◌}
-use Rattle.expr.specs.declared.refusal.Refusal.{Refusal}
-use Rattle.expr.specs.declared.Counted.{Counted}
-use Rattle.expr.specs.declared.Counted.TheVariants as counted
-use Rattle.expr.specs.Refusals.{refusal, reason_of}
+use Rattle.expr.specs.declared.refusal.Reason.{Reason}
+use Rattle.expr.specs.Refusals.{refusal}
 use Rattle.expr.specs.Outcome.{Outcome, refused, accepted, mapped}
 use Rattle.expr.specs.OutcomeLaws.{then_accepted, mapped_accepted, mapped_made, refused_then, refused_mapped}
 use Rattle.expr.specs.Expr.{Expr, encode, nodes, depth}
 use Rattle.expr.specs.ExprLaws.{length_encode}
-use Rattle.expr.specs.Answers.{counted_outcome}
 use Rattle.expr.specs.Front.{Starts, Whole, tree_at}
 use Rattle.expr.specs.PartLaws.{exact_front, exact_tree, exact_whole}
 use Rattle.width.specs.Checked.{checked}
@@ -30,25 +27,26 @@ use Rattle.rewriting.specs.AtomSimplifier.{local_rewrite, first_site}
 use Rattle.rewriting.specs.SiteLaws.{first_site_lem}
 use Rattle.rewriting.specs.ShapeLaws.{local_nodes}
 use Rattle.atom_simplifier.specs.declared.local.Decision.{Decision}
-use Rattle.atom_simplifier.specs.declared.local.Decision.TheVariants.{Nothing}
+use Rattle.std.specs.Prelude.{Some, None}
+use Rattle.std.specs.Prelude as answered
+use Rattle.std.specs.declared.ops.ControlFlow.{ControlFlow}
+use Rattle.std.specs.declared.ops.ControlFlow.TheVariants.{Continue, Break}
 use Rattle.atom_simplifier.specs.declared.search.Site.{Site}
-use Rattle.atom_simplifier.specs.declared.search.Search.{Search}
-use Rattle.atom_simplifier.specs.declared.search.Search.TheVariants.{None, Found}
 use Rattle.atom_simplifier.specs.Calls.{with_room, admitted, local_rewrite_at, first_site_at, written}
 use Rattle.atom_simplifier.specs.Promises.{Makes, Decides, Writable, Writes, IsFound, site_words, HoldsSite, Searched}
-use Rattle.atom_simplifier.proofs.DecideLaws.{within_inside, within_part, is_rewrite, none_decided, some_decided}
+use Rattle.atom_simplifier.proofs.DecideLaws.{within_inside, within_part, not_some, none_decided, some_decided}
 use Rattle.atom_simplifier.proofs.SearchLaws.{none_is, found_is}
 
 -- ---- `admit`
 
-module _ (ws : List ℕ) (w room : ℕ) (x : Counted) (h : counted_outcome x ≡ mapped nodes (checked w ws)) where
-  pub words_refused : (r : Refusal) → x ≡ counted.Refused r → refused (reason_of r) ≡ mapped nodes (admitted ws w room)
+module _ (ws : List ℕ) (w room : ℕ) where
+  pub words_refused : (r : Reason) → refused r ≡ mapped nodes (checked w ws) → refused r ≡ mapped nodes (admitted ws w room)
   unfolding admitted
-  words_refused r e = ap (mapped nodes) (refused_then nodes (with_room room) (checked w ws) (ap counted_outcome (sym e) ∙ h))
+  words_refused r e = ap (mapped nodes) (refused_then nodes (with_room room) (checked w ws) e)
 
-  module _ (n : ℕ) (e : x ≡ counted.Count n) where
+  module _ (n : ℕ) (e : accepted n ≡ mapped nodes (checked w ws)) where
     m : Tree w ws n
-    m = checked_tree w ws x h n e
+    m = checked_tree w ws n e
 
     pub room_refused : room < 2 * (n + 1) → refused (refusal 9) ≡ mapped nodes (admitted ws w room)
     unfolding admitted
@@ -68,14 +66,14 @@ pub ruleset admitting = (words_refused, room_refused, admits, count_fits, room_f
 
 -- ---- a tree that was admitted
 
-module _ (ws : List ℕ) (w room : ℕ) (x : Counted) (h : counted_outcome x ≡ mapped nodes (admitted ws w room)) where
-  module _ (n : ℕ) (e : x ≡ counted.Count n) where
+module _ (ws : List ℕ) (w room : ℕ) where
+  module _ (n : ℕ) (e : accepted n ≡ mapped nodes (admitted ws w room)) where
     t : Expr
-    t = (mapped_made nodes (admitted ws w room) (ap counted_outcome (sym e) ∙ h)).answer
+    t = (mapped_made nodes (admitted ws w room) e).answer
 
     was : admitted ws w room ≡ accepted t
     unfolding t
-    was = (mapped_made nodes (admitted ws w room) (ap counted_outcome (sym e) ∙ h)).was
+    was = (mapped_made nodes (admitted ws w room) e).was
 
     a : Admitted (λ u. 2 * (nodes u + 1)) ws w room t
     unfolding admitted
@@ -106,10 +104,10 @@ module _ (ws : List ℕ) (w room : ℕ) (x : Counted) (h : counted_outcome x ≡
     unfolding local_rewrite_at
     local_is = mapped_accepted was (local_rewrite w) ∙ ap (λ (s : Expr). accepted (local_rewrite w s)) (sym tree_is)
 
-    module _ (d : Decision) (g : Decides ws d (local_rewrite w (tree_at ws))) where
-      module _ (f : d ≡ Nothing) where
+    module _ (q : answered.Option Decision) (g : Decides ws q (local_rewrite w (tree_at ws))) where
+      module _ (f : q ≡ None) where
         stays : local_rewrite_at ws w room ≡ accepted none
-        stays = local_is ∙ ap accepted (none_decided ws d _ g f)
+        stays = local_is ∙ ap accepted (none_decided ws q _ g f)
 
         pub none_answered : accepted none ≡ mapped (map nodes) (local_rewrite_at ws w room)
         none_answered = sym (ap (mapped (map nodes)) stays)
@@ -117,9 +115,9 @@ module _ (ws : List ℕ) (w room : ℕ) (x : Counted) (h : counted_outcome x ≡
         pub none_written : (out : List ℕ) → out ≡ written encode (local_rewrite_at ws w room) out
         none_written out = sym (ap (λ (o : Outcome (Option Expr)). written encode o out) stays)
 
-      module _ (f : d ≡ Nothing → ⊥) where
+      module _ (d : Decision) (f : q ≡ Some d) where
         u : (v : Expr) × (local_rewrite w (tree_at ws) ≡ some v) × Makes ws d v
-        u = some_decided ws d _ g f
+        u = some_decided ws q _ g d f
 
         pub call_writable : Writable ws d room
         call_writable = record {
@@ -140,18 +138,18 @@ module _ (ws : List ℕ) (w room : ℕ) (x : Counted) (h : counted_outcome x ≡
           pub some_written : after ≡ written encode (local_rewrite_at ws w room) before
           some_written = (i.laid u.0 u.2).is ∙ sym (ap (λ (o : Outcome (Option Expr)). written encode o before) goes)
 
-  module _ (r : Refusal) (e : x ≡ counted.Refused r) where
-    turned : local_rewrite_at ws w room ≡ refused (reason_of r)
+  module _ (r : Reason) (e : refused r ≡ mapped nodes (admitted ws w room)) where
+    turned : local_rewrite_at ws w room ≡ refused r
     unfolding local_rewrite_at
-    turned = sym (refused_mapped nodes (local_rewrite w) (admitted ws w room) (ap counted_outcome (sym e) ∙ h))
+    turned = sym (refused_mapped nodes (local_rewrite w) (admitted ws w room) e)
 
-    pub local_refused : refused (reason_of r) ≡ mapped (map nodes) (local_rewrite_at ws w room)
+    pub local_refused : refused r ≡ mapped (map nodes) (local_rewrite_at ws w room)
     local_refused = sym (ap (mapped (map nodes)) turned)
 
     pub refused_written : (out : List ℕ) → out ≡ written encode (local_rewrite_at ws w room) out
     refused_written out = sym (ap (λ (o : Outcome (Option Expr)). written encode o out) turned)
 
-pub ruleset local_call = (is_rewrite, call_whole, call_short, call_width, none_answered, none_written, call_writable, some_answered, some_written, local_refused, refused_written)
+pub ruleset local_call = (not_some, call_whole, call_short, call_width, none_answered, none_written, call_writable, some_answered, some_written, local_refused, refused_written)
 
 -- ---- `find_first_certifiable_atom_rewrite`
 
@@ -159,25 +157,25 @@ pub ruleset local_call = (is_rewrite, call_whole, call_short, call_width, none_a
 abbrev numbers : def.Site → ℕ × ℕ
 numbers s = (length s.path, nodes s.replacement)
 
-module _ (ws : List ℕ) (w bytes room : ℕ) (x : Counted) (h : counted_outcome x ≡ mapped nodes (admitted ws w room)) where
-  module _ (r : Refusal) (e : x ≡ counted.Refused r) where
-    site_turned : first_site_at ws w bytes room ≡ refused (reason_of r)
+module _ (ws : List ℕ) (w bytes room : ℕ) where
+  module _ (r : Reason) (e : refused r ≡ mapped nodes (admitted ws w room)) where
+    site_turned : first_site_at ws w bytes room ≡ refused r
     unfolding first_site_at
-    site_turned = sym (refused_then nodes _ (admitted ws w room) (ap counted_outcome (sym e) ∙ h))
+    site_turned = sym (refused_then nodes _ (admitted ws w room) e)
 
-    pub site_refused : refused (reason_of r) ≡ mapped (map numbers) (first_site_at ws w bytes room)
+    pub site_refused : refused r ≡ mapped (map numbers) (first_site_at ws w bytes room)
     site_refused = sym (ap (mapped (map numbers)) site_turned)
 
     pub site_refused_written : (f : def.Site → List ℕ) (lent : List ℕ) → lent ≡ written f (first_site_at ws w bytes room) lent
     site_refused_written f lent = sym (ap (λ (o : Outcome (Option def.Site)). written f o lent) site_turned)
 
-  module _ (n : ℕ) (e : x ≡ counted.Count n) where
+  module _ (n : ℕ) (e : accepted n ≡ mapped nodes (admitted ws w room)) where
     site_at : (b : Bool) → ltb bytes 63 ≡ b → first_site_at ws w bytes room ≡ (if b then refused (refusal 9) else accepted (first_site w (tree_at ws)))
     unfolding first_site_at
     site_at b f =
-        then_accepted (was ws w room x h n e) _
-        ∙ ap (λ (c : Bool). if c then refused (refusal 9) else accepted (first_site w (t ws w room x h n e))) f
-        ∙ ap (λ (s : Expr). if b then refused (refusal 9) else accepted (first_site w s)) (sym (tree_is ws w room x h n e))
+        then_accepted (was ws w room n e) _
+        ∙ ap (λ (c : Bool). if c then refused (refusal 9) else accepted (first_site w (t ws w room n e))) f
+        ∙ ap (λ (s : Expr). if b then refused (refusal 9) else accepted (first_site w s)) (sym (tree_is ws w room n e))
 
     module _ (f : bytes < 63) where
       no_path : first_site_at ws w bytes room ≡ refused (refusal 9)
@@ -190,16 +188,16 @@ module _ (ws : List ℕ) (w bytes room : ℕ) (x : Counted) (h : counted_outcome
       path_refused_written g lent = sym (ap (λ (o : Outcome (Option def.Site)). written g o lent) no_path)
 
     pub call_starts : Starts ws
-    call_starts = record { tree = tree_at ws; front = exact_front ws (tree_at ws) (call_whole ws w room x h n e) }
+    call_starts = record { tree = tree_at ws; front = exact_front ws (tree_at ws) (call_whole ws w room n e) }
 
     pub call_depth : (path : List ℕ) → 63 ≤ length path → depth (tree_at ws) ≤ length path + 1
-    call_depth path l = omega (arith, ap depth (tree_is ws w room x h n e), (a ws w room x h n e).levels)
+    call_depth path l = omega (arith, ap depth (tree_is ws w room n e), (a ws w room n e).levels)
 
-    module _ (l : 63 ≤ bytes) (path after : List ℕ) (k : ℕ) (y : Search) (q : Searched (first_site w (tree_at ws)) ws k path after y) where
+    module _ (l : 63 ≤ bytes) (path after : List ℕ) (k : ℕ) (y : ControlFlow Site ℕ) (q : Searched (first_site w (tree_at ws)) ws k path after y) where
       site_is : first_site_at ws w bytes room ≡ accepted (first_site w (tree_at ws))
       site_is = site_at false (le-ltb bytes 63 l)
 
-      module _ (m : ℕ) (f : y ≡ None m) where
+      module _ (m : ℕ) (f : y ≡ Continue m) where
         no_site : first_site_at ws w bytes room ≡ accepted none
         no_site = site_is ∙ ap accepted (none_is _ ws k path after y q m f).0
 
@@ -212,7 +210,7 @@ module _ (ws : List ℕ) (w bytes room : ℕ) (x : Counted) (h : counted_outcome
         pub no_words_written : (out : List ℕ) → out ≡ written (λ s. encode s.replacement) (first_site_at ws w bytes room) out
         no_words_written out = sym (ap (λ (o : Outcome (Option def.Site)). written (λ s. encode s.replacement) o out) no_site)
 
-      module _ (s : Site) (f : y ≡ Found s) where
+      module _ (s : Site) (f : y ≡ Break s) where
         found : (site : def.Site) × (first_site w (tree_at ws) ≡ some site) × IsFound site ws path after s
         found = found_is _ ws k path after y q s f
 
@@ -234,7 +232,7 @@ module _ (ws : List ℕ) (w bytes room : ℕ) (x : Counted) (h : counted_outcome
           writable = record {
             tree = found.0.replacement;
             makes = makes;
-            fits = fits ws w room x h n e found.0.replacement (omega (arith, (first_site_lem w (tree_at ws) found.0 found.1).few, ap nodes (tree_is ws w room x h n e)));
+            fits = fits ws w room n e found.0.replacement (omega (arith, (first_site_lem w (tree_at ws) found.0 found.1).few, ap nodes (tree_is ws w room n e)));
           };
         }
 

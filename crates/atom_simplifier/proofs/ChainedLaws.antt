@@ -8,20 +8,17 @@ use lib.Seq.{take_at}
 use mir.Syntax.{w64}
 use mir.Val.{Fits}
 use borrow.Rule.Slice.PartMut.{put_mid}
-use Rattle.expr.specs.declared.refusal.Refusal.{Refusal}
-use Rattle.expr.specs.declared.Counted.{Counted}
-use Rattle.expr.specs.declared.Counted.TheVariants as count
-use Rattle.expr.specs.Refusals.{refusal, reason_of}
+use Rattle.expr.specs.declared.refusal.Reason.{Reason}
+use Rattle.expr.specs.Refusals.{refusal}
 use Rattle.expr.specs.Outcome.{Outcome, refused, accepted, mapped}
-use Rattle.expr.specs.OutcomeLaws.{Made, mapped_made, refused_then}
+use Rattle.expr.specs.OutcomeLaws.{same_answer, mapped_accepted, Made, mapped_made, refused_then}
 use Rattle.expr.specs.Expr.{Expr, encode, nodes}
 use Rattle.expr.specs.ExprLaws.{length_encode}
-use Rattle.expr.specs.Parse.{Accepts}
+use Rattle.expr.specs.Parse.{Accepts, parse}
 use Rattle.expr.specs.ParseLaws.{parse_sound, parse_encode}
-use Rattle.expr.specs.Answers.{counted_outcome}
 use Rattle.expr.specs.Parts.{tail}
 use Rattle.expr.specs.TailLaws.{length_tail}
-use Rattle.expr.specs.Front.{Front, Starts, Read, Gives, tree_at}
+use Rattle.expr.specs.Front.{Front, Starts, tree_at}
 use Rattle.expr.specs.FrontLaws.{parse_front}
 use Rattle.expr.specs.PartLaws.{front_tree}
 use Rattle.expr.specs.LentLaws.{put_tail}
@@ -90,18 +87,18 @@ chained w widths t u k ws after n o v s e f =
 
 -- ---- the call
 
-module _ (ws : List ℕ) (w : ℕ) (widths : List ℕ) (x : Counted) (h : counted_outcome x ≡ mapped nodes (one_width_of ws w widths)) where
-  pub chain_turned_down : (r : Refusal) → x ≡ count.Refused r → (work : List ℕ) → ChainGives (chain_admitted ws w widths (length work)) w widths work work (refused (reason_of r))
+module _ (ws : List ℕ) (w : ℕ) (widths : List ℕ) where
+  pub chain_turned_down : (r : Reason) → refused r ≡ mapped encode (one_width_of ws w widths) → (work : List ℕ) → ChainGives (chain_admitted ws w widths (length work)) w widths work work (refused r)
   unfolding ChainIs chain_admitted
   chain_turned_down r e work = record {
     is =
-        subst (λ (a : Outcome Expr). ChainIs a w widths work work (refused (reason_of r)))
-        (refused_then nodes (with_work (length work)) (one_width_of ws w widths) (ap counted_outcome (sym e) ∙ h)) (refl, refl);
+        subst (λ (a : Outcome Expr). ChainIs a w widths work work (refused r))
+        (refused_then encode (with_work (length work)) (one_width_of ws w widths) e) (refl, refl);
   }
 
-  module _ (n : ℕ) (e : x ≡ count.Count n) where
-    m : Made nodes (one_width_of ws w widths) n
-    m = mapped_made nodes (one_width_of ws w widths) (ap counted_outcome (sym e) ∙ h)
+  module _ (vs : List ℕ) (e : accepted vs ≡ mapped encode (one_width_of ws w widths)) where
+    m : Made encode (one_width_of ws w widths) vs
+    m = mapped_made encode (one_width_of ws w widths) e
 
     abbrev t : Expr
     t = m.answer
@@ -130,27 +127,36 @@ module _ (ws : List ℕ) (w : ℕ) (widths : List ℕ) (x : Counted) (h : counte
     pub chain_width : w ≤ 64
     chain_width = of_one_width.at_most
 
-    pub chain_room : (work : List ℕ) (more : ℕ) → 2 * (n + more) ≤ length work → length (encode (tree_at ws)) ≤ length work
-    chain_room work more f = omega (arith, ap nodes tree_is, length_encode (tree_at ws), m.made)
+    read : parse vs ≡ accepted t
+    read = ap parse (sym m.made ∙ sym accepts.words) ∙ of_one_width.parsed
+
+    node_count : (n : ℕ) → accepted n ≡ mapped nodes (parse vs) → n ≡ nodes t
+    node_count n h = same_answer (h ∙ mapped_accepted read nodes)
+
+    pub chain_room : (work : List ℕ) (n more : ℕ) → accepted n ≡ mapped nodes (parse vs) → 2 * (n + more) ≤ length work → length (encode (tree_at ws)) ≤ length work
+    chain_room work n more h f = omega (arith, ap nodes tree_is, length_encode (tree_at ws), node_count n h)
 
     -- ---- the room that is asked for
 
-    module _ (spans : ℕ) (v : Pairs) (p : Read ws spans (Gives counted v)) where
+    module _ (n : ℕ) (h : accepted n ≡ mapped nodes (parse vs)) (v : Pairs) (p : (u : Expr) → parse vs ≡ accepted u → v ≡ counted u) where
+      count_is : n ≡ nodes t
+      count_is = node_count n h
+
       pairs_are : v.pairs ≡ D t
       unfolding counted
-      pairs_are = ap (λ (y : Pairs). y.pairs) (p.holds t front).is
+      pairs_are = ap (λ (y : Pairs). y.pairs) (p t read)
 
       few : v.pairs ≤ 1048576
       few = omega (arith, pairs_are, D_small t (omega (arith, accepts.valid.count)), accepts.valid.count)
 
       pub sum_fits : Fits w64 (n + v.pairs)
-      sum_fits = omega (arith, few, m.made, accepts.valid.count)
+      sum_fits = omega (arith, few, count_is, accepts.valid.count)
 
       pub room_fits : Fits w64 (2 * (n + v.pairs))
-      room_fits = omega (arith, few, m.made, accepts.valid.count)
+      room_fits = omega (arith, few, count_is, accepts.valid.count)
 
       need_is : 2 * (nodes t + D t) ≡ 2 * (n + v.pairs)
-      need_is = omega (arith, m.made, pairs_are)
+      need_is = omega (arith, count_is, pairs_are)
 
       pub work_too_small : (work : List ℕ) → length work < 2 * (n + v.pairs) → ChainGives (chain_admitted ws w widths (length work)) w widths work work (refused (refusal 9))
       unfolding ChainIs chain_admitted
@@ -170,7 +176,7 @@ module _ (ws : List ℕ) (w : ℕ) (widths : List ℕ) (x : Counted) (h : counte
       pub end_inside : len ≤ length built
       end_inside = omega (arith, i.comes.len_is, ap length i.comes.words, length-append (encode i.comes.tree) i.comes.rest)
 
-      module _ (spans : ℕ) (v : Pairs) (p : Read ws spans (Gives counted v)) (f : 2 * (n + v.pairs) ≤ length work) (cleared : List ℕ) (c : cleared ≡ replicate (length (tail len built)) 0) where
+      module _ (n : ℕ) (h : accepted n ≡ mapped nodes (parse vs)) (v : Pairs) (p : (u : Expr) → parse vs ≡ accepted u → v ≡ counted u) (f : 2 * (n + v.pairs) ≤ length work) (cleared : List ℕ) (c : cleared ≡ replicate (length (tail len built)) 0) where
         abbrev after : List ℕ
         after = put_mid len (length built - len) built cleared
 
@@ -178,7 +184,7 @@ module _ (ws : List ℕ) (w : ℕ) (widths : List ℕ) (x : Counted) (h : counte
         unfolding ChainIs chain_admitted
         chain_answered =
             let u = i.comes.tree in
-            let enough-work : 2 * (nodes t + D t) ≤ length work = omega (arith, need_is spans v p) in
+            let enough-work : 2 * (nodes t + D t) ≤ length work = omega (arith, need_is n h v p) in
             let half : len / 2 ≡ nodes u = omega (arith, i.comes.len_is, length_encode u) in
             record {
               is =

@@ -1,14 +1,13 @@
 -- What a decision makes of a node's words. Assumes nothing.
 use mathlib.Core.Path.{◌≡◌, refl, sym, ap, subst, ◌∙◌}
-use mathlib.Core.Logic.{⊎_elim}
 use mathlib.Core.List.{List, [], ◌∷◌, ◌++◌, append_assoc, append-nil}
 use mathlib.Core.Option.{Option, none, some}
 use Prim.Native.Nat.{ℕ, ◌+◌, ◌*◌, ◌-◌, ◌≤◌}
 use native.Mathlib.Omega.{arith}
 use lib.ListN.{length, take, drop, get_or, length-append}
 use lib.Seq.{take_at, drop_at}
-use denote.Enum.Declared.{tag_of}
-use types.Run.{OneOf}
+use Rattle.std.specs.Prelude.{Some, None}
+use Rattle.std.specs.Prelude as answered
 use Rattle.expr.specs.Expr.{Expr, encode, nodes}
 use Rattle.expr.specs.ExprLaws.{length_encode}
 use Rattle.expr.specs.Outcome.{accepted}
@@ -19,35 +18,39 @@ use Rattle.expr.specs.Front.{Exactly, left_of, right_of}
 use Rattle.expr.specs.Parts as slice
 use Rattle.expr.specs.PartLaws.{two_children, left_exact, right_exact}
 use Rattle.atom_simplifier.specs.declared.local.Decision.{Decision}
-use Rattle.atom_simplifier.specs.declared.local.Decision.TheVariants.{Nothing}
-use Rattle.atom_simplifier.specs.contracts.local.Decision.{the_type}
 use Rattle.atom_simplifier.specs.Promises.{Within, Holds, Makes, Meaning, Decides}
 
--- any decision but Nothing
-pub is_rewrite : (d : Decision) → OneOf (1 ∷ 2 ∷ 3 ∷ 4 ∷ []) (tag_of the_type d) → d ≡ Nothing → ⊥
-is_rewrite d z e =
-    let n : tag_of the_type d ≡ 0 = ap (tag_of the_type) e in
-    ⊎_elim (λ y. omega arith) (⊎_elim (λ y. omega arith) (⊎_elim (λ y. omega arith) (λ y. omega arith))) z
-
-module _ (ws : List ℕ) (d : Decision) where
-  pub decides_none : (o : Option Expr) → o ≡ none → d ≡ Nothing → Decides ws d o
+module _ (ws : List ℕ) where
+  pub decides_none : (o : Option Expr) → o ≡ none → Decides ws None o
   unfolding Meaning
-  decides_none o e f = subst (Decides ws d) (sym e) (record { is = f })
+  decides_none o e = subst (Decides ws None) (sym e) (record { is = refl })
 
-  pub decides_some : (o : Option Expr) (u : Expr) → o ≡ some u → Makes ws d u → Decides ws d o
+  pub decides_some : (d : Decision) (o : Option Expr) (u : Expr) → o ≡ some u → Makes ws d u → Decides ws (Some d) o
   unfolding Meaning
-  decides_some o u e m = subst (Decides ws d) (sym e) (record { is = m })
+  decides_some d o u e m = subst (Decides ws (Some d)) (sym e) (record { is = m })
 
-  -- Nothing is decided exactly where there is none
-  pub none_decided : (o : Option Expr) → Decides ws d o → d ≡ Nothing → o ≡ none
-  unfolding Meaning Makes
-  none_decided none h e = refl
-  none_decided (some u) h e = absurd (subst (λ (x : Decision). Makes ws x u) e h.is)
+  module _ (q : answered.Option Decision) (o : Option Expr) (h : Decides ws q o) where
+    -- there is no decision exactly where the definition gives none
+    pub none_decided : q ≡ None → o ≡ none
+    unfolding Meaning
+    none_decided e = go o (subst (λ (r : answered.Option Decision). Meaning ws r o) e h.is)
+      where
+        go : (p : Option Expr) → Meaning ws None p → p ≡ none
+        go none m = refl
+        go (some u) m = absurd m
 
-  pub some_decided : (o : Option Expr) → Decides ws d o → (d ≡ Nothing → ⊥) → (u : Expr) × (o ≡ some u) × Makes ws d u
-  unfolding Meaning
-  some_decided none h f = absurd (f h.is)
-  some_decided (some u) h f = (u, refl, h.is)
+    pub some_decided : (d : Decision) → q ≡ Some d → (u : Expr) × (o ≡ some u) × Makes ws d u
+    unfolding Meaning
+    some_decided d e = go o (subst (λ (r : answered.Option Decision). Meaning ws r o) e h.is)
+      where
+        go : (p : Option Expr) → Meaning ws (Some d) p → (u : Expr) × (p ≡ some u) × Makes ws d u
+        go none m = absurd (let y = m in cc)
+        go (some u) m = (u, refl, m)
+
+-- what is not there
+pub not_some : {A : Type 0} (v : answered.Option A) → ((a : A) → v ≡ Some a → ⊥) → v ≡ None
+not_some None f = refl
+not_some (Some a) f = absurd (f a refl)
 
 -- ---- places
 

@@ -10,7 +10,7 @@ pub mod ReplacementLaws
 pub mod ReplaceLaws
 pub mod SearchLaws
 pub mod CallLaws
-pub mod PairsLaws
+pub mod CountLaws
 pub mod SettleLaws
 pub mod TurnLaws
 pub mod BuildLaws

@@ -1,6 +1,5 @@
 -- What a decision makes of a node is put in the place of the node. Assumes nothing.
-use mathlib.Core.Path.{◌≡◌, refl, sym, ap, ap₂, subst, ◌∙◌}
-use mathlib.Core.Logic.{⊎_elim}
+use mathlib.Core.Path.{◌≡◌, sym, ap, ap₂, subst, ◌∙◌}
 use mathlib.Core.List.{List, [], ◌∷◌, ◌++◌, append-nil}
 use Prim.Native.Nat.{ℕ, zero, suc, ◌+◌, ◌*◌, ◌-◌, ◌^◌, ◌≤◌, ◌<◌}
 use native.Mathlib.Omega.{arith}
@@ -8,16 +7,13 @@ use lib.ListN.{length, take, drop, get_or, length-drop, take-append-drop, drop_o
 use lib.Seq.{length-take-le, get_or-take, take-append-le, drop-append-le}
 use mir.Syntax.{w64}
 use mir.Val.{Fits}
-use denote.Enum.Declared.{tag_of}
-use types.Run.{OneOf}
 use Rattle.expr.specs.Expr.{Expr, encode}
 use Rattle.expr.specs.ExprLaws.{prefix_free}
 use Rattle.expr.specs.Parts.{part, Laid}
 use Rattle.expr.specs.Front.{tree_at}
 use Rattle.atom_simplifier.specs.declared.local.Decision.{Decision}
-use Rattle.atom_simplifier.specs.declared.local.Decision.TheVariants.{Nothing, Part, Constant, Join, DeMorgan}
+use Rattle.atom_simplifier.specs.declared.local.Decision.TheVariants.{Part, Constant, Join, DeMorgan}
 use Rattle.atom_simplifier.specs.Promises.{Joined, Makes, copied, Writes, Replaceable}
-use Rattle.atom_simplifier.specs.contracts.local.Decision.{the_type}
 use Rattle.atom_simplifier.proofs.ReplacementLaws as in_node
 use Rattle.atom_simplifier.proofs.ReplacementLaws.{constant_written, part_written, join_written}
 
@@ -104,17 +100,9 @@ module _ (ws : List ℕ) (len : ℕ) (d : Decision) (r : Replaceable ws len d) w
         (subst (Laid ws after)
         (ap₂ (λ (k : ℕ) (v : List ℕ). ((k ∷ 0 ∷ []) ++ v) ++ (0 ∷ c ∷ [])) (sym (get_or-take (len - 0) ws 0 0 (omega (arith, join_short, join_place)))) (sym (part_front ws len at n r.inside join_short))) l)
 
-  -- ---- any other decision makes nothing, or more words than the node has
+  -- ---- De Morgan's law makes more words than the node has
 
-  pub none_replaced : OneOf (0 ∷ 4 ∷ []) (tag_of the_type d) → (before after : List ℕ) (n : ℕ) → Writes node d before after n
-  unfolding Makes
-  none_replaced z before after n = absurd (go d refl)
-    where
-      go : (x : Decision) → d ≡ x → ⊥
-      go Nothing e = subst (λ (x : Decision). Makes node x r.writable.tree) e r.writable.makes
-      go (Part at m) e = let y = ap (tag_of the_type) e in ⊎_elim (λ f. omega arith) (λ f. omega arith) z
-      go (Constant c) e = let y = ap (tag_of the_type) e in ⊎_elim (λ f. omega arith) (λ f. omega arith) z
-      go (Join at m c) e = let y = ap (tag_of the_type) e in ⊎_elim (λ f. omega arith) (λ f. omega arith) z
-      go (DeMorgan right) e = omega (arith, in_node.turns_room node d len r.writable right e, node_length)
+  pub none_replaced : (right : ℕ) → d ≡ DeMorgan right → (before after : List ℕ) (n : ℕ) → Writes node d before after n
+  none_replaced right e before after n = absurd (omega (arith, in_node.turns_room node d len r.writable right e, node_length))
 
 pub ruleset in_place = (part_replaceable, part_replaced, constant_replaceable, constant_replaced, join_replaceable, join_fits, join_end, join_place, join_replaced, none_replaced)

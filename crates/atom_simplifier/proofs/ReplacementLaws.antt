@@ -13,7 +13,7 @@ use Rattle.expr.specs.TailLaws.{tail_drop}
 use Rattle.expr.specs.Parts.{part, Laid}
 use Rattle.rewriting.specs.AtomSimplifier.{constant, not}
 use Rattle.atom_simplifier.specs.declared.local.Decision.{Decision}
-use Rattle.atom_simplifier.specs.declared.local.Decision.TheVariants.{Nothing, Part, Constant, Join, DeMorgan}
+use Rattle.atom_simplifier.specs.declared.local.Decision.TheVariants.{Part, Constant, Join, DeMorgan}
 use Rattle.atom_simplifier.proofs.DecideLaws.{within_inside, within_part}
 use Rattle.atom_simplifier.specs.Promises.{Holds, Joined, dual_number, Turns, Makes, copied, Writable, Writes}
 
@@ -104,10 +104,6 @@ module _ (ws : List ℕ) (d : Decision) (room : ℕ) (w : Writable ws d room) wh
 
 -- ---- what was written
 
-pub nothing_written : (ws : List ℕ) (d : Decision) (room : ℕ) → Writable ws d room → d ≡ Nothing → (before after : List ℕ) (n : ℕ) → Writes ws d before after n
-unfolding Makes
-nothing_written ws d room w e before after n = absurd (made ws d room w Nothing e)
-
 module _ (ws : List ℕ) (d : Decision) (before after : List ℕ) where
   -- the words that each tree of the decision has are those written
   written : (e : Decision) → d ≡ e → (n : ℕ) (xs : List ℕ) → Laid before after xs → ((u : Expr) → Makes ws e u → xs ≡ encode u) → n ≡ length xs → Writes ws d before after n
@@ -164,4 +160,4 @@ module _ (ws : List ℕ) (d : Decision) (before after : List ℕ) where
             ∙ ap₂ (λ (v z : List ℕ). ((binary_number t.other ∷ 0 ∷ []) ++ ((7 ∷ 0 ∷ []) ++ v)) ++ ((7 ∷ 0 ∷ []) ++ z)) x y
             ∙ ap encode (sym t.is)
 
-pub ruleset replacing = (part_inside, part_room, part_fits, part_scaled, constant_room, join_inside, join_fits, join_room, join_count_fits, join_first, right_least, right_most, turns_room, nothing_written, constant_written, part_written, join_written, turned_written)
+pub ruleset replacing = (part_inside, part_room, part_fits, part_scaled, constant_room, join_inside, join_fits, join_room, join_count_fits, join_first, right_least, right_most, turns_room, constant_written, part_written, join_written, turned_written)

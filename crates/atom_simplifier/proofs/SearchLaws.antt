@@ -1,6 +1,5 @@
 -- The search for the first site. Assumes nothing.
 use mathlib.Core.Path.{◌≡◌, refl, sym, ap, ap₂, subst, ◌∙◌}
-use mathlib.Core.Logic.{⊎_elim}
 use mathlib.Core.List.{List, [], ◌∷◌, ◌++◌, append_assoc}
 use mathlib.Core.Option.{Option, none, some}
 use Prim.Native.Nat.{ℕ, suc, ◌+◌, ◌*◌, ◌-◌, ◌≤◌, ◌<◌}
@@ -9,21 +8,22 @@ use lib.ListN.{length, take, drop, get_or, set, length-append, take-append-drop}
 use lib.Seq.{drop-drop, length-take-le}
 use mir.Syntax.{w64}
 use mir.Val.{Fits}
-use denote.Enum.Declared.{tag_of}
-use types.Run.{OneOf}
 use borrow.Rule.Slice.PartMut.{put_mid}
-use Rattle.expr.specs.declared.refusal.Refusal.{Refusal}
+use Rattle.std.specs.Prelude.{Some, None}
+use Rattle.std.specs.Prelude as answered
+use Rattle.std.specs.declared.ops.ControlFlow.{ControlFlow}
+use Rattle.std.specs.declared.ops.ControlFlow.TheVariants.{Continue, Break}
 use Rattle.expr.specs.declared.Arity.{Arity}
 use Rattle.expr.specs.declared.Arity.TheVariants as arity
 use Rattle.expr.specs.Outcome.{accepted}
 use Rattle.expr.specs.Expr.{Expr, unary, binary, encode, depth}
 use Rattle.expr.specs.ExprLaws.{depth_pos, depth_nodes, length_encode}
 use Rattle.expr.specs.Parse.{arity_of}
-use Rattle.expr.specs.Answers.{arity_outcome}
+use Rattle.expr.specs.Answers.{children_of}
 use Rattle.expr.specs.Parts.{tail, part}
 use Rattle.expr.specs.TailLaws.{tail_drop, length_tail}
 use Rattle.expr.specs.Front.{Front, Starts, Whole, tree_at, left_of}
-use Rattle.expr.specs.FrontLaws.{LeafNode, UnaryNode, BinaryNode, leaf_node, unary_node, binary_node, has_node, has_kind, child_starts, left_starts, no_kind}
+use Rattle.expr.specs.FrontLaws.{LeafNode, UnaryNode, BinaryNode, leaf_node, unary_node, binary_node, has_node, has_kind, child_starts, left_starts, has_arity, known_arity}
 use Rattle.expr.specs.PartLaws.{tail_short, part_short, front_tree, front_part, starts_front, exact_tree, exact_whole}
 use Rattle.expr.specs.LentLaws.{put_tail}
 use Rattle.rewriting.specs.Optional.{map, ◌or_else◌}
@@ -31,57 +31,39 @@ use Rattle.rewriting.specs.AtomSimplifier as def
 use Rattle.rewriting.specs.AtomSimplifier.{local_rewrite, here, below, first_site}
 use Rattle.rewriting.specs.SiteLaws.{first_site_lem}
 use Rattle.atom_simplifier.specs.declared.local.Decision.{Decision}
-use Rattle.atom_simplifier.specs.declared.local.Decision.TheVariants.{Nothing, Part, Constant, Join, DeMorgan}
 use Rattle.atom_simplifier.specs.declared.search.Site.{Site}
-use Rattle.atom_simplifier.specs.declared.search.Search.{Search}
-use Rattle.atom_simplifier.specs.declared.search.Search.TheVariants.{None, Found}
 use Rattle.atom_simplifier.specs.Promises.{Within, Makes, Meaning, Decides, at_root, under_parent, IsFound, SearchIs, Searched}
-use Rattle.atom_simplifier.specs.contracts.local.Decision.{the_type}
 use Rattle.atom_simplifier.proofs.DecideLaws.{within_inside}
 use Rattle.atom_simplifier.proofs.LocalLaws.{first_word}
 use Rattle.atom_simplifier.proofs.OperandLaws.{arity_two}
 
--- ---- `at_root`
-
-pub root_none : (n : ℕ) (d : Decision) → d ≡ Nothing → None n ≡ at_root n d
-root_none n d e = sym (ap (at_root n) e)
-
-pub root_found : (n : ℕ) (d : Decision) → OneOf (1 ∷ 2 ∷ 3 ∷ 4 ∷ []) (tag_of the_type d) → Found (record { at = 0; words = n; levels = 0; local = d }) ≡ at_root n d
-root_found n Nothing z = absurd (⊎_elim (λ y. omega arith) (⊎_elim (λ y. omega arith) (⊎_elim (λ y. omega arith) (λ y. omega arith))) z)
-root_found n (Part at len) z = refl
-root_found n (Constant c) z = refl
-root_found n (Join at len c) z = refl
-root_found n (DeMorgan right) z = refl
-
-pub ruleset rooting = (root_none, root_found)
-
 -- ---- answers
 
-module _ (o : Option def.Site) (ws : List ℕ) (n : ℕ) (before after : List ℕ) (r : Search) (h : Searched o ws n before after r) where
-  told : (q : Search) → r ≡ q → SearchIs o ws n before after q
+module _ (o : Option def.Site) (ws : List ℕ) (n : ℕ) (before after : List ℕ) (r : ControlFlow Site ℕ) (h : Searched o ws n before after r) where
+  told : (q : ControlFlow Site ℕ) → r ≡ q → SearchIs o ws n before after q
   told q e = subst (SearchIs o ws n before after) e h.is
 
-  module _ (m : ℕ) (e : r ≡ None m) where
+  module _ (m : ℕ) (e : r ≡ Continue m) where
     pub none_is : (o ≡ none) × (m ≡ n) × (after ≡ before)
     unfolding SearchIs
-    none_is = told (None m) e
+    none_is = told (Continue m) e
 
     pub none_words : m ≡ n
     none_words = none_is.1
 
-  pub found_is : (s : Site) → r ≡ Found s → (site : def.Site) × (o ≡ some site) × IsFound site ws before after s
+  pub found_is : (s : Site) → r ≡ Break s → (site : def.Site) × (o ≡ some site) × IsFound site ws before after s
   unfolding SearchIs
-  found_is s e = told (Found s) e
+  found_is s e = told (Break s) e
 
 -- a site that is found is the first, whatever comes after it
-first_found : (o z : Option def.Site) (ws : List ℕ) (n m : ℕ) (before after : List ℕ) (r : Search) (s : Site) → Searched o ws n before after r → r ≡ Found s → Searched (o or_else z) ws m before after r
+first_found : (o z : Option def.Site) (ws : List ℕ) (n m : ℕ) (before after : List ℕ) (r a : ControlFlow Site ℕ) (s : Site) → Searched o ws n before after r → r ≡ Break s → a ≡ Break s → Searched (o or_else z) ws m before after a
 unfolding SearchIs
-first_found o z ws n m before after r s h e =
+first_found o z ws n m before after r a s h e g =
     let f = found_is o ws n before after r h s e in
-    record { is = subst (SearchIs (o or_else z) ws m before after) (sym e) (f.0, ap (λ (p : Option def.Site). p or_else z) f.1, f.2) }
+    record { is = subst (SearchIs (o or_else z) ws m before after) (sym g) (f.0, ap (λ (p : Option def.Site). p or_else z) f.1, f.2) }
 
 -- the root, where no child has a site
-at_root_lem : (w : ℕ) (ws : List ℕ) (n : ℕ) (t : Expr) (d : Decision) (r : Search) (before after : List ℕ) (o : Option def.Site) → after ≡ before → n ≡ length (encode t)
+at_root_lem : (w : ℕ) (ws : List ℕ) (n : ℕ) (t : Expr) (d : answered.Option Decision) (r : ControlFlow Site ℕ) (before after : List ℕ) (o : Option def.Site) → after ≡ before → n ≡ length (encode t)
     → Front ws t → Decides (part 0 n ws) d (local_rewrite w t) → r ≡ at_root n d → o ≡ map here (local_rewrite w t) → Searched o ws n before after r
 unfolding SearchIs Meaning Makes
 at_root_lem w ws n t d r before after o k e f h g i =
@@ -101,17 +83,11 @@ at_root_lem w ws n t d r before after o k e f h g i =
     found : (c : Decision) (u : Expr) → Makes (part 0 n ws) c u → IsFound (here u) ws before after (record { at = 0; words = n; levels = 0; local = c })
     found c u m = record { bytes = record { is = k }; levels_is = refl; node = part 0 n ws; within = whole; words_is = long; makes = m }
 
-    go : (c : Decision) (p : Option Expr) → Decides (part 0 n ws) c p → Searched (map here p) ws n before after (at_root n c)
-    go Nothing none m = record { is = (refl, refl, k) }
-    go Nothing (some u) m = absurd m.is
-    go (Part at len) none m = absurd (let z : ◌≡◌ {A = ℕ} 0 1 = (let y = m.is in cc) in omega arith)
-    go (Part at len) (some u) m = record { is = (here u, refl, found (Part at len) u m.is) }
-    go (Constant c) none m = absurd (let z : ◌≡◌ {A = ℕ} 0 1 = (let y = m.is in cc) in omega arith)
-    go (Constant c) (some u) m = record { is = (here u, refl, found (Constant c) u m.is) }
-    go (Join at len c) none m = absurd (let z : ◌≡◌ {A = ℕ} 0 1 = (let y = m.is in cc) in omega arith)
-    go (Join at len c) (some u) m = record { is = (here u, refl, found (Join at len c) u m.is) }
-    go (DeMorgan right) none m = absurd (let z : ◌≡◌ {A = ℕ} 0 1 = (let y = m.is in cc) in omega arith)
-    go (DeMorgan right) (some u) m = record { is = (here u, refl, found (DeMorgan right) u m.is) }
+    go : (c : answered.Option Decision) (p : Option Expr) → Decides (part 0 n ws) c p → Searched (map here p) ws n before after (at_root n c)
+    go None none m = record { is = (refl, refl, k) }
+    go None (some u) m = absurd m.is
+    go (Some c) none m = absurd (let y = m.is in cc)
+    go (Some c) (some u) m = record { is = (here u, refl, found c u m.is) }
 
 -- ---- the node at the front, as its arity tells
 
@@ -136,13 +112,13 @@ module _ (ws : List ℕ) (s : Starts ws) where
       first : (t : Expr) → get_or (encode t) 0 0 ≡ get_or (encode t ++ front.rest) 0 0
       first t = sym (first_word t front.rest)
 
-module _ (ws : List ℕ) (s : Starts ws) (v : Arity) (h : arity_outcome v ≡ arity_of (get_or ws 0 0)) where
+module _ (ws : List ℕ) (s : Starts ws) (v : Arity) (h : accepted (children_of v) ≡ arity_of (get_or ws 0 0)) where
   -- a leaf
   module _ (e : v ≡ arity.Zero) where
     l : LeafNode ws (tree_at ws)
     l = leaf_node ws v h (tree_at ws) e (front ws s)
 
-    pub leaf_searched : (w : ℕ) (path : List ℕ) → Searched (first_site w (tree_at ws)) ws (length (encode (tree_at ws))) path path (None 2)
+    pub leaf_searched : (w : ℕ) (path : List ℕ) → Searched (first_site w (tree_at ws)) ws (length (encode (tree_at ws))) path path (Continue 2)
     unfolding SearchIs first_site local_rewrite encode
     leaf_searched w path = record { is = (ap (first_site w) l.is, sym (ap (λ (t : Expr). length (encode t)) l.is), refl) }
 
@@ -170,22 +146,22 @@ module _ (ws : List ℕ) (s : Starts ws) (v : Arity) (h : arity_outcome v ≡ ar
       one_fits m = omega (arith, one_words, front_inside ws s (length (encode (tree_at ws))) refl)
 
       pub one_arity : arity_of (get_or (part 0 (2 + n) ws) 0 0) ≡ accepted 1
-      one_arity = ap arity_of (same_word ws s (2 + n) one_words) ∙ sym h ∙ ap arity_outcome e
+      one_arity = ap arity_of (same_word ws s (2 + n) one_words) ∙ sym h ∙ ap (λ (a : Arity). accepted (children_of a)) e
 
-    module _ (w n : ℕ) (before after : List ℕ) (r : Search) (q : Searched (map (below 0) (first_site w (tree_at (tail 2 ws)))) ws n before after r) where
+    module _ (w n : ℕ) (before after : List ℕ) (r : ControlFlow Site ℕ) (q : Searched (map (below 0) (first_site w (tree_at (tail 2 ws)))) ws n before after r) where
       sites : first_site w (tree_at ws) ≡ (map (below 0) (first_site w (tree_at (tail 2 ws))) or_else map here (local_rewrite w (tree_at ws)))
       unfolding first_site
       sites =
           ap (first_site w) node_is
           ∙ ap (λ (t : Expr). map (below 0) (first_site w (tree_at (tail 2 ws))) or_else map here (local_rewrite w t)) (sym node_is)
 
-      pub one_found : (x : Site) → r ≡ Found x → Searched (first_site w (tree_at ws)) ws (length (encode (tree_at ws))) before after r
-      one_found x f =
-          subst (λ (o : Option def.Site). Searched o ws (length (encode (tree_at ws))) before after r) (sym sites)
-          (first_found _ (map here (local_rewrite w (tree_at ws))) ws n (length (encode (tree_at ws))) before after r x q f)
+      pub one_found : (x : Site) → r ≡ Break x → (a : ControlFlow Site ℕ) → a ≡ Break x → Searched (first_site w (tree_at ws)) ws (length (encode (tree_at ws))) before after a
+      one_found x f a g =
+          subst (λ (o : Option def.Site). Searched o ws (length (encode (tree_at ws))) before after a) (sym sites)
+          (first_found _ (map here (local_rewrite w (tree_at ws))) ws n (length (encode (tree_at ws))) before after r a x q f g)
 
-      pub one_root : (m : ℕ) → r ≡ None m → n ≡ length (encode (tree_at (tail 2 ws))) → (d : Decision)
-          → ((x : ℕ) → Decides (part 0 (2 + m) ws) d (local_rewrite x (tree_at (part 0 (2 + m) ws)))) → (a : Search) → a ≡ at_root (2 + m) d
+      pub one_root : (m : ℕ) → r ≡ Continue m → n ≡ length (encode (tree_at (tail 2 ws))) → (d : answered.Option Decision)
+          → ((x : ℕ) → Decides (part 0 (2 + m) ws) d (local_rewrite x (tree_at (part 0 (2 + m) ws)))) → (a : ControlFlow Site ℕ) → a ≡ at_root (2 + m) d
           → Searched (first_site w (tree_at ws)) ws (length (encode (tree_at ws))) before after a
       one_root m f c d g a i =
           let z = none_is _ ws n before after r q m f in
@@ -194,10 +170,6 @@ module _ (ws : List ℕ) (s : Starts ws) (v : Arity) (h : arity_outcome v ≡ ar
           (at_root_lem w ws (2 + m) (tree_at ws) d a before after (first_site w (tree_at ws)) z.2 b (front ws s)
           (subst (λ (t : Expr). Decides (part 0 (2 + m) ws) d (local_rewrite w t)) (same_tree ws s (2 + m) b) (g w)) i
           (sites ∙ ap (λ (o : Option def.Site). o or_else map here (local_rewrite w (tree_at ws))) z.0))
-
-  -- no tree has an unknown kind
-  pub no_search : (r : Refusal) → v ≡ arity.Refused r → (o : Option def.Site) (n : ℕ) (before after : List ℕ) (q : Search) → Searched o ws n before after q
-  no_search r e o n before after q = (no_kind ws v h s r e n (λ t. Searched o ws n before after q)).holds (tree_at ws) (front ws s)
 
 -- a node over two children
 module _ (ws : List ℕ) (s : Starts ws) (e : arity_of (get_or ws 0 0) ≡ accepted 2) where
@@ -261,15 +233,15 @@ module _ (ws : List ℕ) (s : Starts ws) (e : arity_of (get_or ws 0 0) ≡ accep
       two_place =
           c ∙ ap (λ (t : Expr). 2 + length (encode (left_of t))) (sym (same_tree ws s (right + n) two_words ∙ both_are))
 
-    module _ (w n : ℕ) (before after : List ℕ) (r : Search) (p : Searched (map (below 1) (first_site w (tree_at (tail right ws)))) ws n before after r) where
+    module _ (w n : ℕ) (before after : List ℕ) (r : ControlFlow Site ℕ) (p : Searched (map (below 1) (first_site w (tree_at (tail right ws)))) ws n before after r) where
       abbrev o : Option def.Site
       o = map (below 1) (first_site w (tree_at (tail right ws))) or_else map here (local_rewrite w (tree_at ws))
 
-      pub right_found : (x : Site) → r ≡ Found x → Searched o ws (length (encode (tree_at ws))) before after r
-      right_found x g = first_found _ (map here (local_rewrite w (tree_at ws))) ws n (length (encode (tree_at ws))) before after r x p g
+      pub right_found : (x : Site) → r ≡ Break x → (a : ControlFlow Site ℕ) → a ≡ Break x → Searched o ws (length (encode (tree_at ws))) before after a
+      right_found x g a i = first_found _ (map here (local_rewrite w (tree_at ws))) ws n (length (encode (tree_at ws))) before after r a x p g i
 
-      pub two_root : (m : ℕ) → r ≡ None m → n ≡ length (encode (tree_at (tail right ws))) → (d : Decision)
-          → Decides (part 0 (right + m) ws) d (local_rewrite w (tree_at (part 0 (right + m) ws))) → (a : Search) → a ≡ at_root (right + m) d
+      pub two_root : (m : ℕ) → r ≡ Continue m → n ≡ length (encode (tree_at (tail right ws))) → (d : answered.Option Decision)
+          → Decides (part 0 (right + m) ws) d (local_rewrite w (tree_at (part 0 (right + m) ws))) → (a : ControlFlow Site ℕ) → a ≡ at_root (right + m) d
           → Searched o ws (length (encode (tree_at ws))) before after a
       two_root m g i d x a z =
           let y = none_is _ ws n before after r p m g in
@@ -288,14 +260,14 @@ module _ (ws : List ℕ) (s : Starts ws) (e : arity_of (get_or ws 0 0) ≡ accep
         ap (first_site w) (both_are right c)
         ∙ ap (λ (t : Expr). map (below 0) (first_site w (tree_at (tail 2 ws))) or_else map (below 1) (first_site w (tree_at (tail right ws))) or_else map here (local_rewrite w t)) (sym (both_are right c))
 
-    module _ (n : ℕ) (before mid : List ℕ) (r : Search) (q : Searched (map (below 0) (first_site w (tree_at (tail 2 ws)))) ws n before mid r) where
-      pub left_found : (x : Site) → r ≡ Found x → Searched (first_site w (tree_at ws)) ws (length (encode (tree_at ws))) before mid r
-      left_found x f =
+    module _ (n : ℕ) (before mid : List ℕ) (r : ControlFlow Site ℕ) (q : Searched (map (below 0) (first_site w (tree_at (tail 2 ws)))) ws n before mid r) where
+      pub left_found : (x : Site) → r ≡ Break x → (a : ControlFlow Site ℕ) → a ≡ Break x → Searched (first_site w (tree_at ws)) ws (length (encode (tree_at ws))) before mid a
+      left_found x f a g =
           let right = 2 + length (encode (tree_at (tail 2 ws))) in
-          subst (λ (u : Option def.Site). Searched u ws (length (encode (tree_at ws))) before mid r) (sym (both_sites right refl))
-          (first_found _ (map (below 1) (first_site w (tree_at (tail right ws))) or_else map here (local_rewrite w (tree_at ws))) ws n (length (encode (tree_at ws))) before mid r x q f)
+          subst (λ (u : Option def.Site). Searched u ws (length (encode (tree_at ws))) before mid a) (sym (both_sites right refl))
+          (first_found _ (map (below 1) (first_site w (tree_at (tail right ws))) or_else map here (local_rewrite w (tree_at ws))) ws n (length (encode (tree_at ws))) before mid r a x q f g)
 
-      module _ (m : ℕ) (f : r ≡ None m) (c : n ≡ length (encode (tree_at (tail 2 ws)))) where
+      module _ (m : ℕ) (f : r ≡ Continue m) (c : n ≡ length (encode (tree_at (tail 2 ws)))) where
         none_left : (map (below 0) (first_site w (tree_at (tail 2 ws))) ≡ none) × (m ≡ n) × (mid ≡ before)
         none_left = none_is _ ws n before mid r q m f
 
@@ -309,7 +281,7 @@ module _ (ws : List ℕ) (s : Starts ws) (e : arity_of (get_or ws 0 0) ≡ accep
         pub mid_depth : depth (tree_at ws) ≤ length before + 1 → depth (tree_at ws) ≤ length mid + 1
         mid_depth d = omega (arith, ap length none_left.2)
 
-        pub then_right : (after : List ℕ) (y : Search)
+        pub then_right : (after : List ℕ) (y : ControlFlow Site ℕ)
             → Searched (map (below 1) (first_site w (tree_at (tail (2 + m) ws))) or_else map here (local_rewrite w (tree_at ws))) ws (length (encode (tree_at ws))) mid after y
             → Searched (first_site w (tree_at ws)) ws (length (encode (tree_at ws))) before after y
         then_right after y g =
@@ -340,8 +312,8 @@ module _ (ws : List ℕ) (by : ℕ) where
     pub path_long : (q : List ℕ) → length q ≡ length (tail 1 path) → length (put_mid 1 (length path - 1) path q) ≡ length path
     path_long q e = ap length (put_tail 1 path q) ∙ length-append (take 1 path) q ∙ omega (arith, path_left, length_tail 1 path, length-take-le 1 path path_left)
 
-  module _ (w n : ℕ) (path q : List ℕ) (r : Search) (h : Searched (first_site w (tree_at (tail by ws))) (tail by ws) n (tail 1 path) q r) (l : 1 ≤ length path) where
-    pub child_none : (m : ℕ) (byte : ℕ) → r ≡ None m → Searched (map (below byte) (first_site w (tree_at (tail by ws)))) ws n path (put_mid 1 (length path - 1) path q) (None m)
+  module _ (w n : ℕ) (path q : List ℕ) (r : ControlFlow Site ℕ) (h : Searched (first_site w (tree_at (tail by ws))) (tail by ws) n (tail 1 path) q r) (l : 1 ≤ length path) where
+    pub child_none : (m : ℕ) (byte : ℕ) → r ≡ Continue m → Searched (map (below byte) (first_site w (tree_at (tail by ws)))) ws n path (put_mid 1 (length path - 1) path q) (Continue m)
     unfolding SearchIs
     child_none m byte e =
         let z = none_is _ (tail by ws) n (tail 1 path) q r h m e in
@@ -353,7 +325,7 @@ module _ (ws : List ℕ) (by : ℕ) where
           );
         }
 
-    module _ (s : Site) (e : r ≡ Found s) where
+    module _ (s : Site) (e : r ≡ Break s) where
       f : (site : def.Site) × (first_site w (tree_at (tail by ws)) ≡ some site) × IsFound site (tail by ws) (tail 1 path) q s
       f = found_is _ (tail by ws) n (tail 1 path) q r h s e
 
@@ -367,9 +339,9 @@ module _ (ws : List ℕ) (by : ℕ) where
           omega (arith, f.2.levels_is, (first_site_lem w t f.0 f.1).short, depth_nodes t, length_encode t, ap length x.words, length-append (encode t) x.rest, length_tail by ws)
 
       pub child_found : (byte : ℕ) → by ≤ length ws → (x : Site) → x ≡ under_parent by s
-          → Searched (map (below byte) (first_site w (tree_at (tail by ws)))) ws n path (set (put_mid 1 (length path - 1) path q) 0 byte) (Found x)
+          → Searched (map (below byte) (first_site w (tree_at (tail by ws)))) ws n path (set (put_mid 1 (length path - 1) path q) 0 byte) (Break x)
       unfolding SearchIs
-      child_found byte g x i = subst (λ (y : Site). Searched (map (below byte) (first_site w (tree_at (tail by ws)))) ws n path (set (put_mid 1 (length path - 1) path q) 0 byte) (Found y)) (sym i)
+      child_found byte g x i = subst (λ (y : Site). Searched (map (below byte) (first_site w (tree_at (tail by ws)))) ws n path (set (put_mid 1 (length path - 1) path q) 0 byte) (Break y)) (sym i)
           (record { is = (below byte f.0, ap (map (below byte)) f.1, seen) })
         where
           bytes : (p : List ℕ) → 1 ≤ length p → set (take 1 p ++ q) 0 byte ≡ byte ∷ q
@@ -399,7 +371,7 @@ module _ (ws : List ℕ) (by : ℕ) where
             makes = f.2.makes;
           }
 
-pub ruleset searching = (has_node, has_kind, child_starts, left_starts, none_words, whole_front, front_inside, part_short, leaf_searched, child_depth, one_words, one_fits, one_arity, one_found, one_root, arity_two, left_depth, left_found, left_place, left_fits, mid_depth, then_right, no_search)
+pub ruleset searching = (has_arity, known_arity, has_node, has_kind, child_starts, left_starts, none_words, whole_front, front_inside, part_short, leaf_searched, child_depth, one_words, one_fits, one_arity, one_found, one_root, arity_two, left_depth, left_found, left_place, left_fits, mid_depth, then_right)
 
 pub ruleset from_right = (has_node, none_words, part_short, right_starts, right_depth, right_first, right_inside, two_inside, two_fits, two_whole, two_arity, two_place, right_found, two_root)
 

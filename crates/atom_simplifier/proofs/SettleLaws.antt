@@ -1,6 +1,5 @@
 -- A node whose children have no site, brought to the end of its list in its own place. Assumes nothing.
 use mathlib.Core.Path.{◌≡◌, refl, sym, ap, subst, ◌∙◌}
-use mathlib.Core.Logic.{⊎_elim}
 use mathlib.Core.List.{List, [], ◌∷◌, ◌++◌, append_assoc}
 use mathlib.Core.Option.{none, some}
 use Prim.Native.Nat.{ℕ, suc, ◌+◌, ◌*◌, ◌-◌, ◌≤◌, ◌<◌}
@@ -10,10 +9,14 @@ use lib.Ieee.Bits.{is_true}
 use lib.ListN.{length, drop, get_or, length-append, length-drop, take-append-drop}
 use lib.Seq.{drop_at, drop-drop, length-take-le}
 use mir.Facts.{yes_and}
-use denote.Enum.Declared.{tag_of}
-use types.Run.{OneOf}
+use Rattle.std.specs.Prelude.{Some, None}
+use Rattle.std.specs.Prelude as answered
 use Rattle.expr.specs.Outcome.{accepted}
-use Rattle.expr.specs.Expr.{Constant, Unary, Not, Binary, Expr, unary, binary, unary_number, unary_operand, binary_number, encode, nodes}
+use Rattle.expr.specs.declared.kind.Leaf.TheVariants.{Constant}
+use Rattle.expr.specs.declared.kind.Unary.{Unary}
+use Rattle.expr.specs.declared.kind.Unary.TheVariants.{Not}
+use Rattle.expr.specs.declared.kind.Binary.{Binary}
+use Rattle.expr.specs.Expr.{Expr, unary, binary, unary_number, unary_operand, binary_number, encode, nodes}
 use Rattle.expr.specs.ExprLaws.{nodes_pos, length_encode}
 use Rattle.expr.specs.KindLaws.{number_arity}
 use Rattle.expr.specs.Parse as kinds
@@ -29,10 +32,9 @@ use Rattle.rewriting.specs.EndLaws.{Ends, done, NoneBelow, leaf_still, unary_bel
 use Rattle.rewriting.specs.ChainLaws.{count_small}
 use Rattle.atom_simplifier.specs.declared.local.Decision.{Decision}
 use Rattle.atom_simplifier.specs.declared.local.Decision.TheVariants as local
-use Rattle.atom_simplifier.specs.declared.local.Decision.TheVariants.{Nothing, Join}
+use Rattle.atom_simplifier.specs.declared.local.Decision.TheVariants.{Join}
 use Rattle.atom_simplifier.specs.Promises.{Holds, Joined, Makes, Decides, Writes, Replaceable, Ready, EndsAt}
-use Rattle.atom_simplifier.specs.contracts.local.Decision.{the_type}
-use Rattle.atom_simplifier.proofs.DecideLaws.{none_decided, some_decided, within_inside}
+use Rattle.atom_simplifier.proofs.DecideLaws.{not_some, none_decided, some_decided, within_inside}
 use Rattle.atom_simplifier.proofs.SearchLaws.{whole_front, same_tree, front_inside, same_word}
 
 -- the words xs, laid over words that are those of ws from `reach` on
@@ -87,16 +89,16 @@ module _ (w : ℕ) (ws : List ℕ) (len : ℕ) (r : Ready w ws len) where
 
   -- ---- a node that stays
 
-  module _ (d : Decision) (h : Decides (part 0 len ws) d (local_rewrite w (tree_at (part 0 len ws)))) where
-    decided : Decides (part 0 len ws) d (local_rewrite w (tree_at ws))
-    decided = subst (λ (t : Expr). Decides (part 0 len ws) d (local_rewrite w t)) node_tree h
+  module _ (q : answered.Option Decision) (h : Decides (part 0 len ws) q (local_rewrite w (tree_at (part 0 len ws)))) where
+    decided : Decides (part 0 len ws) q (local_rewrite w (tree_at ws))
+    decided = subst (λ (t : Expr). Decides (part 0 len ws) q (local_rewrite w t)) node_tree h
 
-    pub stays : d ≡ Nothing → EndsAt w (tree_at ws) len ws ws len 0
+    pub stays : q ≡ None → EndsAt w (tree_at ws) len ws ws len 0
     stays e =
         let f = starts_front ws r.starts in
         record {
           tree = tree_at ws;
-          ends = ends_here w (tree_at ws) r.below (none_decided (part 0 len ws) d _ decided e);
+          ends = ends_here w (tree_at ws) r.below (none_decided (part 0 len ws) q _ decided e);
           few = omega arith;
           operands = f.operands;
           len_is = r.len_is;
@@ -109,7 +111,6 @@ module _ (w : ℕ) (ws : List ℕ) (len : ℕ) (r : Ready w ws len) where
 
 -- the decisions that `replace` is for
 abbrev InPlace : Decision → Type 0
-InPlace local.Nothing = ⊥
 InPlace (local.Part at n) = Unit
 InPlace (local.Constant c) = Unit
 InPlace (local.Join at n c) = Unit
@@ -117,21 +118,16 @@ InPlace (local.DeMorgan right) = ⊥
 
 -- and those after which nothing is left to do
 abbrev Last : Decision → Type 0
-Last local.Nothing = ⊥
 Last (local.Part at n) = Unit
 Last (local.Constant c) = Unit
 Last (local.Join at n c) = ⊥
 Last (local.DeMorgan right) = ⊥
 
 last_in_place : (d : Decision) → Last d → InPlace d
-last_in_place local.Nothing l = l
 last_in_place (local.Part at n) l = l
 last_in_place (local.Constant c) l = l
 last_in_place (local.Join at n c) l = absurd l
 last_in_place (local.DeMorgan right) l = l
-
-in_place_some : (d : Decision) → InPlace d → d ≡ Nothing → ⊥
-in_place_some d l e = subst InPlace e l
 
 -- De Morgan's law alone adds a node
 in_place_less : (node : List ℕ) (d : Decision) {t u : Expr} → Exactly node t → InPlace d → Makes node d u → Change t u → Less t u
@@ -140,7 +136,6 @@ in_place_less node d x i m (less c) = c
 in_place_less node d x i m (turned_over (over {k} {j} {a} {b} e f)) = absurd (go d i m)
   where
     go : (d : Decision) → InPlace d → Makes node d (binary j (not a) (not b)) → ⊥
-    go local.Nothing i m = i
     go (local.Part at n) i m =
         omega (arith, within_inside node (encode (binary j (not a) (not b))) at m.within, ap length x.words, length_encode (not (binary k a b)), length_encode (binary j (not a) (not b)))
     go (local.Constant c) i m = omega (arith, ap nodes m)
@@ -156,7 +151,6 @@ module _ (node : List ℕ) (t : Expr) (x : Exactly node t) where
 
   last_still : (w : ℕ) → NoneBelow w t → (d : Decision) (u : Expr) → Last d → Makes node d u → nodes u < nodes t → first_rewrite w u ≡ none
   unfolding Makes
-  last_still w b local.Nothing u l m f = absurd l
   last_still w b (local.Part at n) u l m f = held_still w b at n u m f
   last_still w b (local.Constant c) u l m f = ap (first_rewrite w) m ∙ leaf_still w (Constant c)
   last_still w b (local.Join at n c) u l m f = absurd l
@@ -164,31 +158,29 @@ module _ (node : List ℕ) (t : Expr) (x : Exactly node t) where
 
   -- what the kind rules out
   module _ (d : Decision) (u : Expr) (m : Makes node d u) where
-    two_last : arity_of (get_or node 0 0) ≡ accepted 2 → OneOf (1 ∷ 2 ∷ 4 ∷ []) (tag_of the_type d) → Last d
+    two_last : arity_of (get_or node 0 0) ≡ accepted 2 → ((at n c : ℕ) → d ≡ local.Join at n c → ⊥) → Last d
     unfolding Makes encode
     two_last a z = go d refl m
       where
         go : (e : Decision) → d ≡ e → Makes node e u → Last e
-        go local.Nothing f m = absurd m
         go (local.Part at n) f m = tt
         go (local.Constant c) f m = tt
-        go (local.Join at n c) f m = let y = ap (tag_of the_type) f in ⊎_elim (λ g. omega arith) (⊎_elim (λ g. omega arith) (λ g. omega arith)) z
+        go (local.Join at n c) f m = absurd (z at n c f)
         go (local.DeMorgan right) f m = let y = ap (λ (l : List ℕ). arity_of (get_or l 0 0)) m.was in let q : ◌≡◌ {A = ℕ} 1 2 = cc (number_arity (kinds.one Not)) in absurd (omega arith)
 
-    one_last : arity_of (get_or node 0 0) ≡ accepted 1 → OneOf (1 ∷ 2 ∷ 3 ∷ []) (tag_of the_type d) → Last d
+    one_last : arity_of (get_or node 0 0) ≡ accepted 1 → ((right : ℕ) → d ≡ local.DeMorgan right → ⊥) → Last d
     unfolding Makes
     one_last a z = go d refl m
       where
         go : (e : Decision) → d ≡ e → Makes node e u → Last e
-        go local.Nothing f m = absurd m
         go (local.Part at n) f m = tt
         go (local.Constant c) f m = tt
         go (local.Join at n c) f m = let y = ap arity_of m.number in let q : ◌≡◌ {A = ℕ} 1 2 = cc (number_arity (kinds.two m.kind)) in absurd (omega arith)
-        go (local.DeMorgan right) f m = let y = ap (tag_of the_type) f in ⊎_elim (λ g. omega arith) (⊎_elim (λ g. omega arith) (λ g. omega arith)) z
+        go (local.DeMorgan right) f m = absurd (z right f)
 
 -- ---- the node replaced
 
-module _ (w : ℕ) (ws : List ℕ) (len : ℕ) (r : Ready w ws len) (d : Decision) (h : Decides (part 0 len ws) d (local_rewrite w (tree_at (part 0 len ws)))) where
+module _ (w : ℕ) (ws : List ℕ) (len : ℕ) (r : Ready w ws len) (q : answered.Option Decision) (h : Decides (part 0 len ws) q (local_rewrite w (tree_at (part 0 len ws)))) (d : Decision) (s : q ≡ Some d) where
   abbrev node : List ℕ
   node = part 0 len ws
 
@@ -197,7 +189,7 @@ module _ (w : ℕ) (ws : List ℕ) (len : ℕ) (r : Ready w ws len) (d : Decisio
 
   module _ (i : InPlace d) where
     made : (u : Expr) × (local_rewrite w t ≡ some u) × Makes node d u
-    made = some_decided node d _ (decided w ws len r d h) (in_place_some d i)
+    made = some_decided node q _ (decided w ws len r q h) d s
 
     abbrev u : Expr
     u = made.0
@@ -274,10 +266,10 @@ module _ (w : ℕ) (ws : List ℕ) (len : ℕ) (r : Ready w ws len) (d : Decisio
 
   -- ---- `settle_two`
 
-  module _ (a : arity_of (get_or ws 0 0) ≡ accepted 2) (z : OneOf (1 ∷ 2 ∷ 4 ∷ []) (tag_of the_type d)) where
+  module _ (a : arity_of (get_or ws 0 0) ≡ accepted 2) (z : (at n c : ℕ) → d ≡ Join at n c → ⊥) where
     two_rests : Last d
     two_rests =
-        let m = some_decided node d _ (decided w ws len r d h) (λ e. let y = ap (tag_of the_type) e in ⊎_elim (λ g. omega arith) (⊎_elim (λ g. omega arith) (λ g. omega arith)) z) in
+        let m = some_decided node q _ (decided w ws len r q h) d s in
         two_last node t (exact w ws len r) d m.0 m.2 (ready_arity w ws len r 2 a) z
 
     pub two_replaceable : Replaceable ws len d
@@ -288,10 +280,10 @@ module _ (w : ℕ) (ws : List ℕ) (len : ℕ) (r : Ready w ws len) (d : Decisio
 
   -- ---- `settle_one`
 
-  module _ (a : arity_of (get_or ws 0 0) ≡ accepted 1) (z : OneOf (1 ∷ 2 ∷ 3 ∷ []) (tag_of the_type d)) where
+  module _ (a : arity_of (get_or ws 0 0) ≡ accepted 1) (z : (right : ℕ) → d ≡ local.DeMorgan right → ⊥) where
     one_rests : Last d
     one_rests =
-        let m = some_decided node d _ (decided w ws len r d h) (λ e. let y = ap (tag_of the_type) e in ⊎_elim (λ g. omega arith) (⊎_elim (λ g. omega arith) (λ g. omega arith)) z) in
+        let m = some_decided node q _ (decided w ws len r q h) d s in
         one_last node t (exact w ws len r) d m.0 m.2 (ready_arity w ws len r 1 a) z
 
     pub one_replaceable : Replaceable ws len d
@@ -302,26 +294,16 @@ module _ (w : ℕ) (ws : List ℕ) (len : ℕ) (r : Ready w ws len) (d : Decisio
 
   -- ---- the node's kind over a part and a constant, which is looked at again
 
-  module _ (e : tag_of the_type d ≡ 3) where
-    join : (at : ℕ) × (n : ℕ) × (c : ℕ) × (d ≡ Join at n c)
-    join = go d refl
-      where
-        go : (x : Decision) → d ≡ x → (at : ℕ) × (n : ℕ) × (c : ℕ) × (d ≡ Join at n c)
-        go local.Nothing f = absurd (let y = ap (tag_of the_type) f in omega arith)
-        go (local.Part at n) f = absurd (let y = ap (tag_of the_type) f in omega arith)
-        go (local.Constant c) f = absurd (let y = ap (tag_of the_type) f in omega arith)
-        go (local.Join at n c) f = (at, n, c, f)
-        go (local.DeMorgan right) f = absurd (let y = ap (tag_of the_type) f in omega arith)
-
+  module _ (at m c : ℕ) (e : d ≡ Join at m c) where
     joins : InPlace d
-    joins = subst InPlace (sym join.3) tt
+    joins = subst InPlace (sym e) tt
 
     pub join_replaceable : Replaceable ws len d
     join_replaceable = replaceable joins
 
-    is_join : Joined node join.0 join.1 join.2 (u joins)
+    is_join : Joined node at m c (u joins)
     unfolding Makes
-    is_join = subst (λ (x : Decision). Makes node x (u joins)) join.3 (made joins).2
+    is_join = subst (λ (x : Decision). Makes node x (u joins)) e (made joins).2
 
     operand_less : nodes is_join.operand < nodes t
     unfolding nodes
@@ -329,7 +311,7 @@ module _ (w : ℕ) (ws : List ℕ) (len : ℕ) (r : Ready w ws len) (d : Decisio
 
     module _ (after : List ℕ) (n : ℕ) (wr : Writes node d ws after n) where
       -- the tree that is looked at again
-      again_is : tree_at after ≡ binary is_join.kind is_join.operand (constant join.2)
+      again_is : tree_at after ≡ binary is_join.kind is_join.operand (constant c)
       again_is = after_tree joins after n wr ∙ is_join.is
 
       pub again_ready : Ready w after n
@@ -339,8 +321,8 @@ module _ (w : ℕ) (ws : List ℕ) (len : ℕ) (r : Ready w ws len) (d : Decisio
         short = omega (arith, shorter joins, n_is joins after n wr, r.short);
         below =
             subst (NoneBelow w) (sym again_is)
-            (binary_below w is_join.kind is_join.operand (constant join.2)
-            (held_still node t (exact w ws len r) w r.below join.0 join.1 is_join.operand is_join.holds operand_less) (leaf_still w (Constant join.2)));
+            (binary_below w is_join.kind is_join.operand (constant c)
+            (held_still node t (exact w ws len r) w r.below at m is_join.operand is_join.holds operand_less) (leaf_still w (Constant c)));
       }
 
       pub again_arity : arity_of (get_or after 0 0) ≡ accepted 2
@@ -351,7 +333,7 @@ module _ (w : ℕ) (ws : List ℕ) (len : ℕ) (r : Ready w ws len) (d : Decisio
 
       again_size : n ≡ 4 + length (encode is_join.operand)
       unfolding encode
-      again_size = n_is joins after n wr ∙ ap (λ (v : Expr). length (encode v)) is_join.is ∙ omega (arith, length-append (encode is_join.operand) (encode (constant join.2)))
+      again_size = n_is joins after n wr ∙ ap (λ (v : Expr). length (encode v)) is_join.is ∙ omega (arith, length-append (encode is_join.operand) (encode (constant c)))
 
       right_is : n - 2 ≡ 2 + length (encode (left_of (tree_at after)))
       right_is = omega (arith, again_size, ap (λ (v : Expr). length (encode (left_of v))) again_is)
@@ -432,4 +414,4 @@ module _ (w : ℕ) (k : Binary) (l r : Expr) (rest ws : List ℕ) (e : ws ≡ bi
 
 pub ruleset settling_two = (ready_inside, ready_whole, ready_arity, ready_right, ready_short)
 
-pub ruleset rewriting_two = (stays, two_replaceable, two_settled, join_replaceable, again_ready, again_arity, again_inside, again_whole, again_kind, again_right, again_short, again_falls, again_fits, join_settled)
+pub ruleset rewriting_two = (not_some, stays, two_replaceable, two_settled, join_replaceable, again_ready, again_arity, again_inside, again_whole, again_kind, again_right, again_short, again_falls, again_fits, join_settled)

@@ -11,11 +11,13 @@ use lib.Seq.{take_at, drop_at, drop-drop, length-take-le, get_or-drop, get_or-ap
 use mir.Facts.{and_yes, or_yes}
 use mir.Syntax.{w64}
 use mir.Val.{Fits}
-use denote.Enum.Declared.{tag_of}
 use borrow.Author.Tests.{eq-eqb}
 use borrow.Rule.Slice.PartMut.{put_mid}
 use Rattle.expr.specs.Outcome.{accepted}
-use Rattle.expr.specs.Expr.{Unary, Not, Binary, Expr, leaf, unary, binary, binary_number, encode, nodes}
+use Rattle.expr.specs.declared.kind.Unary.{Unary}
+use Rattle.expr.specs.declared.kind.Unary.TheVariants.{Not}
+use Rattle.expr.specs.declared.kind.Binary.{Binary}
+use Rattle.expr.specs.Expr.{Expr, leaf, unary, binary, binary_number, encode, nodes}
 use Rattle.expr.specs.ExprLaws.{nodes_pos, length_encode, encode_injective}
 use Rattle.expr.specs.Parse.{arity_of, operand_ok, operands_ok}
 use Rattle.expr.specs.Parts.{tail, part, Laid}
@@ -28,18 +30,19 @@ use Rattle.rewriting.specs.TestLaws.{not_kind→eq}
 use Rattle.rewriting.specs.ShapeLaws.{Dual, and_or_lem, or_and, over, Change, less, turned_over, local_change}
 use Rattle.rewriting.specs.EndLaws.{Ends, NoneBelow, no_site, left_still, right_still, below_child, ends_right, ends_de_morgan, ends_not_not, not_not_ends}
 use Rattle.rewriting.specs.ChainLaws.{count_small}
+use Rattle.std.specs.Prelude.{Some}
+use Rattle.std.specs.Prelude as answered
 use Rattle.atom_simplifier.specs.declared.local.Decision.{Decision}
 use Rattle.atom_simplifier.specs.declared.local.Decision.TheVariants.{DeMorgan}
 use Rattle.atom_simplifier.specs.Promises.{dual_number, Turns, Makes, Decides, Ready, Apart, Turnable, Turned, Half, HalfTurned, HalfEnds, EndsAt}
-use Rattle.atom_simplifier.specs.contracts.local.Decision.{the_type}
-use Rattle.atom_simplifier.proofs.DecideLaws.{some_decided}
+use Rattle.atom_simplifier.proofs.DecideLaws.{not_some, some_decided}
 use Rattle.atom_simplifier.proofs.LocalLaws.{root_not, first_word}
 use Rattle.atom_simplifier.proofs.SettleLaws.{ends_long, ready_inside, ready_whole, ready_arity, ready_short, node_tree, exact, stays, one_replaceable, one_settled, covered, covers, one_tree, one_ready, one_arity, two_ready, two_tree, two_arity, two_right}
 
 -- ---- `settle_one`
 
 -- what is decided of a node over one child is so at every width
-pub decided_at : (w : ℕ) (node : List ℕ) (d : Decision) → ((v : ℕ) → Decides node d (local_rewrite v (tree_at node))) → Decides node d (local_rewrite w (tree_at node))
+pub decided_at : (w : ℕ) (node : List ℕ) (d : answered.Option Decision) → ((v : ℕ) → Decides node d (local_rewrite v (tree_at node))) → Decides node d (local_rewrite w (tree_at node))
 decided_at w node d h = h w
 
 -- ---- `rewrite_one`
@@ -67,12 +70,12 @@ turnable w ws right len (turned_over (over {k} {j} {a} {b} d n)) f x m s e h =
       short = h;
     }
 
-module _ (w : ℕ) (ws : List ℕ) (len : ℕ) (r : Ready w ws len) (d : Decision) (h : Decides (part 0 len ws) d (local_rewrite w (tree_at (part 0 len ws)))) where
+module _ (w : ℕ) (ws : List ℕ) (len : ℕ) (r : Ready w ws len) (q : answered.Option Decision) (h : Decides (part 0 len ws) q (local_rewrite w (tree_at (part 0 len ws)))) (d : Decision) (s : q ≡ Some d) where
   pub one_turnable : (right : ℕ) → d ≡ DeMorgan right → Turnable w ws right len
   unfolding Makes
   one_turnable right e =
-      let g = subst (λ (t : Expr). Decides (part 0 len ws) d (local_rewrite w t)) (node_tree w ws len r) h in
-      let m = some_decided (part 0 len ws) d _ g (λ f. let y = ap (tag_of the_type) (sym e ∙ f) in omega arith) in
+      let g = subst (λ (t : Expr). Decides (part 0 len ws) q (local_rewrite w t)) (node_tree w ws len r) h in
+      let m = some_decided (part 0 len ws) q _ g d s in
       turnable w ws right len (local_change w (tree_at ws) m.0 m.1) (starts_front ws r.starts) (exact w ws len r)
       (subst (λ (x : Decision). Makes (part 0 len ws) x m.0) e m.2) r.below r.len_is r.short
 
@@ -611,10 +614,7 @@ not_falls len m e = omega arith
 pub second_call_falls : (right len m : ℕ) → 3 * (len - right) + 10 ≡ m → 3 * (len - right) + 9 < m
 second_call_falls right len m e = omega arith
 
-pub kind_turned : (ws : List ℕ) (j : ℕ) → j ≡ dual_number (get_or ws 2 0) → Turned ws (set ws 0 j)
-kind_turned ws j e = record { is = ap (set ws 0) e }
-
-pub ruleset rewriting_one = (stays, one_replaceable, one_settled, one_turnable, turn_falls)
+pub ruleset rewriting_one = (not_some, stays, one_replaceable, one_settled, one_turnable, turn_falls)
 
 pub ruleset settling_one = (ready_inside, ready_whole, ready_arity, ready_short, decided_at, rewrite_falls)
 

@@ -2,9 +2,9 @@
 use mathlib.Core.Path.{◌≡◌, refl, sym, ap, subst, ◌∙◌}
 use mathlib.Core.Bool.{Bool}
 use mathlib.Core.List.{List, [], ◌∷◌, ◌++◌}
-use Prim.Native.Nat.{ℕ, ◌+◌, ◌-◌, ◌≤◌, ◌<◌}
+use Prim.Native.Nat.{ℕ, ◌+◌, ◌-◌, ◌≤◌}
 use native.Mathlib.Omega.{arith}
-use lib.ListN.{length, take, drop, get_or, set, length-drop, length-set}
+use lib.ListN.{length, take, drop, length-drop}
 use lib.Seq.{take_all, length-take-le}
 use borrow.Author.Tests.{ne_eqb}
 use borrow.Rule.Slice.PartMut.{put_mid}
@@ -19,28 +19,6 @@ use Rattle.atom_simplifier.specs.Promises.{copied, dual_number}
 pub part_copied : (w : ℕ) (part before after : List ℕ) → length part ≤ length before → after ≡ over (take (length before) part) before → Laid before after (copied w part)
 unfolding copied
 part_copied w part before after h e = record { is = e ∙ ap (λ (l : List ℕ). over l before) (take_all (length before) part h) }
-
--- ---- loops that write a word a turn
-
--- after i turns the first i words are written
-pub record Copied (part before after : List ℕ) (i : ℕ) : Type 0 where
-  pub is : after ≡ filled part before i
-  pub turn : i ≤ length part
-  pub long : length after ≡ length before
-
-module _ (part before : List ℕ) (h : length part ≤ length before) where
-  pub none_copied : Copied part before before 0
-  none_copied = record { is = refl; turn = omega arith; long = refl }
-
-  pub one_copied : (after : List ℕ) (i : ℕ) → Copied part before after i → i < length part → Copied part before (set after i (get_or part i 0)) (i + 1)
-  one_copied after i c l = record {
-    is = ap (λ (w : List ℕ). set w i (get_or part i 0)) c.is ∙ filled_next part before i 0 l (omega arith);
-    turn = omega arith;
-    long = length-set after i (get_or part i 0) ∙ c.long;
-  }
-
-pub copied_long : (part before after : List ℕ) (i : ℕ) → Copied part before after i → length after ≡ length before
-copied_long part before after i c = c.long
 
 -- ---- the pieces of a replacement
 

@@ -1,7 +1,11 @@
 -- What this crate's private functions promise one another; no public promise names it. Definitions only.
-use Rattle.std.specs.Prelude.{◌≡◌, Bool, ◌||◌, List, [], ◌∷◌, ◌++◌, ℕ, ◌+◌, ◌*◌, ◌≤◌, T, eqb, length, drop, get_or, set, if◌then◌else◌}
+use Rattle.std.specs.Prelude.{◌≡◌, Bool, ◌||◌, List, [], ◌∷◌, ◌++◌, ℕ, ◌+◌, ◌*◌, ◌≤◌, T, Some, None, IsSomeAnd, eqb, length, drop, get_or, set, if◌then◌else◌}
+use Rattle.std.specs.Prelude as answered
+use Rattle.std.specs.declared.ops.ControlFlow.{ControlFlow}
+use Rattle.std.specs.declared.ops.ControlFlow.TheVariants.{Continue, Break}
 use Rattle.std.proofs.Math.Option.{Option, none, some}
-use Rattle.expr.specs.Expr.{Binary, Expr, binary, binary_number, encode}
+use Rattle.expr.specs.declared.kind.Binary.{Binary}
+use Rattle.expr.specs.Expr.{Expr, binary, binary_number, encode}
 use Rattle.expr.specs.Parse.{operands_ok}
 use Rattle.expr.specs.Parts.{tail, part, Laid}
 use Rattle.expr.specs.Front.{Front, Starts, Whole, tree_at}
@@ -11,21 +15,14 @@ use Rattle.rewriting.specs.AtomSimplifier.{constant, not, is_not, constant_val, 
 use Rattle.rewriting.specs.Measures.{and_ors_of, D}
 use Rattle.rewriting.specs.ShapeLaws.{Dual}
 use Rattle.rewriting.specs.EndLaws.{Ends, NoneBelow}
-use Rattle.atom_simplifier.specs.declared.fold.ConstantVal.{ConstantVal}
-use Rattle.atom_simplifier.specs.declared.fold.ConstantVal.TheVariants as val
+use Rattle.atom_simplifier.specs.declared.fold.Bitwise as fold
+use Rattle.atom_simplifier.specs.declared.fold.Bitwise.TheVariants as op
 use Rattle.atom_simplifier.specs.declared.fold.Arm.{Arm}
 use Rattle.atom_simplifier.specs.declared.fold.Arm.TheVariants as arm
 use Rattle.atom_simplifier.specs.declared.local.Decision.{Decision}
-use Rattle.atom_simplifier.specs.declared.local.Decision.TheVariants.{Nothing, Part, Constant, Join, DeMorgan}
+use Rattle.atom_simplifier.specs.declared.local.Decision.TheVariants.{Part, Constant, Join, DeMorgan}
 use Rattle.atom_simplifier.specs.declared.search.Site.{Site}
-use Rattle.atom_simplifier.specs.declared.search.Search.{Search}
-use Rattle.atom_simplifier.specs.declared.search.Search.TheVariants.{None, Found}
 use Rattle.atom_simplifier.specs.declared.chain.Pairs.{Pairs}
-
--- a constant's word, or none
-abbrev pub constant_option : ConstantVal → Option ℕ
-constant_option (val.Word c) = some c
-constant_option val.None = none
 
 -- at width w the tree is the Constant c
 unfoldable pub is_constant : ℕ → Expr → ℕ → Bool
@@ -35,13 +32,27 @@ is_constant w t c = constant_val w t equals_some c
 unfoldable pub either_constant : ℕ → Expr → Expr → ℕ → Bool
 either_constant w t u c = (constant_val w t equals_some c) || (constant_val w u equals_some c)
 
--- the folded kind of a number: And is 4, Or is 5, and the third is Xor
-abbrev pub bitwise_of : ℕ → Bitwise
-bitwise_of k = if eqb k 4 then and else if eqb k 5 then or else xor
+-- the folded kind, as the definitions name it
+abbrev pub bitwise_of : fold.Bitwise → Bitwise
+bitwise_of op.And = and
+bitwise_of op.Or = or
+bitwise_of op.Xor = xor
 
--- the number is that of a folded kind
-abbrev pub IsBitwise : ℕ → Type 0
-IsBitwise k = k ≡ binary_number (kind_of (bitwise_of k))
+-- its number
+abbrev pub number_of : fold.Bitwise → ℕ
+number_of o = binary_number (kind_of (bitwise_of o))
+
+-- the number is that of the folded kind, or of none
+abbrev pub KindIs : ℕ → answered.Option fold.Bitwise → Type 0
+KindIs k None = (o : fold.Bitwise) → k ≡ number_of o → ⊥
+KindIs k (Some o) = k ≡ number_of o
+
+-- the number is that of And or Or
+pub record IsDual (k : ℕ) : Type 0 where
+  pub kind : Binary
+  pub other : Binary
+  pub dual : Dual kind other
+  pub number : k ≡ binary_number kind
 
 -- what an arm makes of the operands t and u
 abbrev pub arm_tree : Bitwise → Expr → Expr → Arm → Expr
@@ -93,22 +104,21 @@ pub record Turns (ws : List ℕ) (right : ℕ) (u : Expr) : Type 0 where
 
 -- the tree that a decision about the node of these words makes
 unfoldable pub Makes : List ℕ → Decision → Expr → Type 0
-Makes ws Nothing u = ⊥
 Makes ws (Part at len) u = Holds ws at len u
 Makes ws (Constant c) u = u ≡ constant c
 Makes ws (Join at len c) u = Joined ws at len c u
 Makes ws (DeMorgan right) u = Turns ws right u
 
--- what the definition gives for the node is what the decision makes, and Nothing where it gives none
-unfoldable pub Meaning : List ℕ → Decision → Option Expr → Type 0
-Meaning ws d none = d ≡ Nothing
-Meaning ws d (some u) = Makes ws d u
+-- what the definition gives for the node is what the decision makes, and there is no decision where it gives none
+unfoldable pub Meaning : List ℕ → answered.Option Decision → Option Expr → Type 0
+Meaning ws d none = d ≡ None
+Meaning ws d (some u) = IsSomeAnd d (λ e. Makes ws e u)
 
-pub record Decides (ws : List ℕ) (d : Decision) (o : Option Expr) : Type 0 where
+pub record Decides (ws : List ℕ) (d : answered.Option Decision) (o : Option Expr) : Type 0 where
   pub is : Meaning ws d o
 
 -- the same, in every node of the kind number k that has the part at `from`, an even place
-pub record DecidesAt (k from : ℕ) (part : List ℕ) (d : Decision) (o : Option Expr) : Type 0 where
+pub record DecidesAt (k from : ℕ) (part : List ℕ) (d : answered.Option Decision) (o : Option Expr) : Type 0 where
   pub in_node : (ws : List ℕ) (half : ℕ) → from ≡ 2 * half → Within ws from part → get_or ws 0 0 ≡ k → Decides ws d o
 
 -- ---- writing
@@ -137,12 +147,9 @@ pub record Replaceable (ws : List ℕ) (len : ℕ) (d : Decision) : Type 0 where
 -- ---- the search
 
 -- the answer for a root of n words whose children have no site
-abbrev pub at_root : ℕ → Decision → Search
-at_root n Nothing = None n
-at_root n (Part at len) = Found (record { at = 0; words = n; levels = 0; local = Part at len })
-at_root n (Constant c) = Found (record { at = 0; words = n; levels = 0; local = Constant c })
-at_root n (Join at len c) = Found (record { at = 0; words = n; levels = 0; local = Join at len c })
-at_root n (DeMorgan right) = Found (record { at = 0; words = n; levels = 0; local = DeMorgan right })
+abbrev pub at_root : ℕ → answered.Option Decision → ControlFlow Site ℕ
+at_root n None = Continue n
+at_root n (Some d) = Break (record { at = 0; words = n; levels = 0; local = d })
 
 -- a site of the child whose words begin at `from`, by its place and level in the parent
 abbrev pub under_parent : ℕ → Site → Site
@@ -167,11 +174,11 @@ pub record HoldsSite (ws : List ℕ) (s : Site) (room : ℕ) : Type 0 where
   pub writable : Writable (site_words ws s) s.local room
 
 -- the answer is the site o, whose node stands in the words, or none and the number n of words, with nothing written
-unfoldable pub SearchIs : Option def.Site → List ℕ → ℕ → List ℕ → List ℕ → Search → Type 0
-SearchIs o ws n before after (None m) = (o ≡ none) × (m ≡ n) × (after ≡ before)
-SearchIs o ws n before after (Found s) = (site : def.Site) × (o ≡ some site) × IsFound site ws before after s
+unfoldable pub SearchIs : Option def.Site → List ℕ → ℕ → List ℕ → List ℕ → ControlFlow Site ℕ → Type 0
+SearchIs o ws n before after (Continue m) = (o ≡ none) × (m ≡ n) × (after ≡ before)
+SearchIs o ws n before after (Break s) = (site : def.Site) × (o ≡ some site) × IsFound site ws before after s
 
-pub record Searched (o : Option def.Site) (ws : List ℕ) (n : ℕ) (before after : List ℕ) (r : Search) : Type 0 where
+pub record Searched (o : Option def.Site) (ws : List ℕ) (n : ℕ) (before after : List ℕ) (r : ControlFlow Site ℕ) : Type 0 where
   pub is : SearchIs o ws n before after r
 
 -- ---- the chain
@@ -179,6 +186,10 @@ pub record Searched (o : Option def.Site) (ws : List ℕ) (n : ℕ) (before afte
 -- what one walk finds of a tree
 unfoldable pub counted : Expr → Pairs
 counted t = record { and_ors = and_ors_of t; pairs = D t }
+
+-- so few that their sums fit
+abbrev pub Few : Pairs → Type 0
+Few p = (p.and_ors ≤ 1024) × (p.pairs ≤ 1048576)
 
 -- the words that are read into the work for a node of the input: the same, at every width
 unfoldable pub loaded : ℕ → ℕ → ℕ → List ℕ

@@ -3,27 +3,33 @@
 // a rewrite only what it has made is looked at again. The rewrites are those of the list, in its order, but that De Morgan's law and the double
 // Not that it makes are one move of words: the work never holds more nodes than the input has.
 ghost use Rattle.std.specs.Prelude.{◌≡◌, ◌+◌, ◌≤◌, ◌<◌, length, get_or, replicate};
-ghost use Rattle.expr.specs.Outcome.{accepted};
-ghost use Rattle.expr.specs.Expr.{Unary, Binary, Expr, unary, binary, unary_number, binary_number, encode};
+ghost use Rattle.expr.specs.Outcome.{accepted, mapped};
+ghost use Rattle.expr.specs.Expr.{encode};
 ghost use Rattle.expr.specs.Parse.{arity_of};
 ghost use Rattle.expr.specs.Parts.{tail, part, Laid};
-ghost use Rattle.expr.specs.Front.{Starts, Read, Gives, tree_at, left_of};
+ghost use Rattle.expr.specs.Front.{Starts, tree_at, left_of};
 ghost use Rattle.rewriting.specs.AtomSimplifier.{not, local_rewrite};
+ghost use Rattle.rewriting.specs.Measures.{and_or, pairs};
 ghost use Rattle.atom_simplifier.specs.Calls.{chain_admitted};
-ghost use Rattle.atom_simplifier.specs.Answers.{chain_outcome};
+ghost use Rattle.expr.specs.Answers.{outcome};
+ghost use Rattle.atom_simplifier.specs.Answers.{end_numbers};
+ghost use Rattle.atom_simplifier.specs.PairsLaws.{few_pairs};
 ghost use Rattle.atom_simplifier.specs.Chained.{ChainGives};
-ghost use Rattle.atom_simplifier.specs.Promises.{Decides, counted, loaded, Ready, Apart, Turnable, Turned, HalfTurned, HalfEnds, EndsAt, Loaded, HasLeft, IsBuilt, RightBuilt};
+ghost use Rattle.atom_simplifier.specs.Promises.{Decides, counted, Few, loaded, Ready, Apart, Turnable, Turned, HalfTurned, HalfEnds, EndsAt, Loaded, HasLeft, IsBuilt, RightBuilt};
 
 use crate::local::Decision;
+use crate::operands::Operands;
 use crate::{local, write};
+use expr::fold::Fold;
+use expr::kind::{Binary, Leaf, Unary};
 use expr::refusal::Refusal;
-use expr::{Arity, Counted, kind};
+use expr::{Arity, kind};
 
-// The nodes of the end tree and the number of rewrites, or a refusal.
-#[derive(Clone, Copy)]
-pub enum ChainAnswer {
-    End(usize, usize),
-    Refused(Refusal),
+// The nodes of the end tree, and the number of rewrites.
+#[derive(Clone, Copy, PartialEq, Eq)]
+pub struct ChainEnd {
+    pub nodes: usize,
+    pub rewrites: usize,
 }
 
 // And and Or nodes of a tree, and its pairs of one of them and a Not above it, which is document 01's D.
@@ -31,13 +37,6 @@ pub enum ChainAnswer {
 pub(crate) struct Pairs {
     and_ors: usize,
     pairs: usize,
-}
-
-// The same for the tree at the front of words, with the number of its words.
-#[derive(Clone, Copy)]
-pub(crate) struct PairsRead {
-    words: usize,
-    found: Pairs,
 }
 
 // How many words the tree has that a node has come to, and how many rewrites it took.
@@ -55,91 +54,80 @@ pub(crate) struct Built {
     count: usize,
 }
 
-// The numbers of a node over one child: a Not makes a pair with each And and Or below it.
-fn unary_pairs(kind: u64, child: Pairs) -> Pairs
-    requires { (child.and_ors ≤ 1024) × (child.pairs ≤ 1048576) }
-    ensures { (k : Unary) (t : Expr) → kind ≡ unary_number k → child ≡ counted t → result ≡ counted (unary k t) }
+// The pairs of a node of the kind with the And and Or nodes below it.
+fn pairs_below(kind: Unary, and_ors: usize) -> usize
+    ensures { result ≡ pairs kind and_ors }
 {
-    if kind != kind::NOT {
-        return child;
-    }
-    Pairs {
-        and_ors: child.and_ors,
-        pairs: child.and_ors + child.pairs,
-    }
-}
-
-// The numbers of a node over two children: the sums of theirs, and an And or Or more where it is one.
-fn binary_pairs(kind: u64, left: Pairs, right: Pairs) -> Pairs
-    requires { (left.and_ors ≤ 1024) × (left.pairs ≤ 1048576) × (right.and_ors ≤ 1024) × (right.pairs ≤ 1048576) }
-    ensures { (k : Binary) (t u : Expr) → kind ≡ binary_number k → left ≡ counted t → right ≡ counted u → result ≡ counted (binary k t u) }
-{
-    let below = left.and_ors + right.and_ors;
-    let pairs = left.pairs + right.pairs;
     match kind {
-        kind::AND..=kind::OR => Pairs {
-            and_ors: 1 + below,
-            pairs,
-        },
-        _ => Pairs {
-            and_ors: below,
-            pairs,
-        },
+        Unary::Not => and_ors,
+        _ => 0,
     }
 }
 
-// The tree at the front of the words.
-fn pairs_at(ws: &[u64]) -> PairsRead
-    requires { Starts ws.now × (length ws.now ≤ 1024) }
-    ensures { Read ws.now result.words (Gives counted result.found) }
+// One for an And or Or.
+fn and_or(kind: Binary) -> usize
+    ensures { result ≡ and_or kind }
 {
-    let kind = ws[0];
-    let rest = &ws[2..];
-    match expr::arity_of(kind) {
-        Arity::Zero => PairsRead {
-            words: 2,
-            found: Pairs {
-                and_ors: 0,
-                pairs: 0,
-            },
-        },
-        Arity::One => {
-            let child = pairs_at(rest);
-            PairsRead {
-                words: child.words + 2,
-                found: unary_pairs(kind, child.found),
-            }
+    match kind {
+        Binary::And => 1,
+        Binary::Or => 1,
+        _ => 0,
+    }
+}
+
+// The walk that counts a tree's pairs.
+struct Counting;
+
+impl Fold for Counting {
+    type Found = Pairs;
+
+    ghost gives = { λ _ found t. found ≡ counted t };
+
+    ghost fits = { λ _ found. Few found };
+
+    ghost within = { λ _ found t few given. few_pairs found t few given };
+
+    #[tactic(auto, unfolding(crate::specs::Promises::counted, rewriting::specs::Measures::and_ors_of, rewriting::specs::Measures::D))]
+    fn leaf(&self, _kind: Leaf) -> Pairs {
+        Pairs {
+            and_ors: 0,
+            pairs: 0,
         }
-        Arity::Two => {
-            let left = pairs_at(rest);
-            let from = left.words;
-            let right = pairs_at(&rest[from..]);
-            PairsRead {
-                words: from + right.words + 2,
-                found: binary_pairs(kind, left.found, right.found),
-            }
+    }
+
+    #[tactic(auto, unfolding(crate::specs::Promises::counted, rewriting::specs::Measures::and_ors_of, rewriting::specs::Measures::D))]
+    fn unary(&self, kind: Unary, child: Pairs) -> Pairs {
+        Pairs {
+            and_ors: child.and_ors,
+            pairs: pairs_below(kind, child.and_ors) + child.pairs,
         }
-        // no tree has such a kind
-        Arity::Refused(_) => PairsRead {
-            words: 2,
-            found: Pairs {
-                and_ors: 0,
-                pairs: 0,
-            },
-        },
+    }
+
+    #[tactic(auto, unfolding(crate::specs::Promises::counted, rewriting::specs::Measures::and_ors_of, rewriting::specs::Measures::D))]
+    fn binary(&self, kind: Binary, left: Pairs, right: Pairs) -> Pairs {
+        Pairs {
+            and_ors: and_or(kind) + left.and_ors + right.and_ors,
+            pairs: left.pairs + right.pairs,
+        }
     }
 }
 
 // A node over two children without a site, with what was decided about it. A fold may make a node whose root has a site again.
-fn rewrite_two(node: &mut [u64], decided: Decision, len: usize, width: u32) -> Settled
+fn rewrite_two(node: &mut [u64], decided: Option<Decision>, len: usize, width: u32) -> Settled
     requires { Ready width node.old len × (arity_of (get_or node.old 0 0) ≡ accepted 2) × Decides (part 0 len node.old) decided (local_rewrite width (tree_at (part 0 len node.old))) × (width ≤ 64) }
     ensures { EndsAt width (tree_at node.old) len node.old node.new result.len result.count }
 {
-    match decided {
-        Decision::Nothing => Settled { len, count: 0 },
+    let Some(rewrite) = decided else {
+        return Settled { len, count: 0 };
+    };
+    match rewrite {
         Decision::Join(_, _, _) => {
-            let all = write::replace(node, len, decided);
-            let next = local::binary_rewrite(&node[0..all], all - 2, width);
+            let all = write::replace(node, len, rewrite);
+            let operands = Operands {
+                node: &node[0..all],
+                right: all - 2,
+            };
+            let next = local::binary_rewrite(operands, width);
             let again = rewrite_two(node, next, all, width);
             Settled {
                 len: again.len,
@@ -147,7 +135,7 @@ fn rewrite_two(node: &mut [u64], decided: Decision, len: usize, width: u32) -> S
             }
         }
         _ => Settled {
-            len: write::replace(node, len, decided),
+            len: write::replace(node, len, rewrite),
             count: 1,
         },
     }
@@ -158,7 +146,11 @@ fn settle_two(node: &mut [u64], right: usize, len: usize, width: u32) -> Settled
     requires { Ready width node.old len × (arity_of (get_or node.old 0 0) ≡ accepted 2) × (right ≡ 2 + length (encode (left_of (tree_at node.old)))) × (width ≤ 64) }
     ensures { EndsAt width (tree_at node.old) len node.old node.new result.len result.count }
 {
-    let decided = local::binary_rewrite(&node[0..len], right, width);
+    let operands = Operands {
+        node: &node[0..len],
+        right,
+    };
+    let decided = local::binary_rewrite(operands, width);
     rewrite_two(node, decided, len, width)
 }
 
@@ -202,15 +194,17 @@ fn settle_de_morgan(node: &mut [u64], right: usize, len: usize, width: u32) -> S
 
 // A node over one child without a site, with what was decided about it.
 #[cycle(rewrite_one_settle_de_morgan_settle_one_settle_operand_settle_second)]
-fn rewrite_one(node: &mut [u64], decided: Decision, len: usize, width: u32) -> Settled
+fn rewrite_one(node: &mut [u64], decided: Option<Decision>, len: usize, width: u32) -> Settled
     requires { Ready width node.old len × (arity_of (get_or node.old 0 0) ≡ accepted 1) × Decides (part 0 len node.old) decided (local_rewrite width (tree_at (part 0 len node.old))) × (width ≤ 64) }
     ensures { EndsAt width (tree_at node.old) len node.old node.new result.len result.count }
 {
-    match decided {
-        Decision::Nothing => Settled { len, count: 0 },
+    let Some(rewrite) = decided else {
+        return Settled { len, count: 0 };
+    };
+    match rewrite {
         Decision::DeMorgan(right) => settle_de_morgan(node, right, len, width),
         _ => Settled {
-            len: write::replace(node, len, decided),
+            len: write::replace(node, len, rewrite),
             count: 1,
         },
     }
@@ -308,7 +302,7 @@ fn build(ws: &[u64], width: u32, work: &mut [u64]) -> Built
     ensures { IsBuilt width ws.now work.old work.new result.read result.len result.count }
 {
     load(ws, width, work);
-    match expr::arity_of(ws[0]) {
+    match expr::arity_of(ws[0]).unwrap() {
         Arity::Zero => Built {
             read: 2,
             len: 2,
@@ -316,40 +310,28 @@ fn build(ws: &[u64], width: u32, work: &mut [u64]) -> Built
         },
         Arity::One => build_one(ws, width, work),
         Arity::Two => build_two(ws, width, work),
-        // no tree has such a kind
-        Arity::Refused(_) => Built {
-            read: 2,
-            len: 2,
-            count: 0,
-        },
-    }
-}
-
-fn clear(work: &mut [u64])
-    ensures { work.new ≡ replicate (length work.old) 0 }
-{
-    let mut i = 0;
-    while i < work.len() {
-        work[i] = 0;
-        i += 1;
     }
 }
 
 // The end tree of the input in the work, and zeros behind it to the end.
-pub fn chain(words: &[u64], width: u32, var_widths: &[u32], work: &mut [u64]) -> ChainAnswer
-    ensures { ChainGives (chain_admitted words.now width var_widths.now (length work.old)) width var_widths.now work.old work.new (chain_outcome result) }
+pub fn chain(
+    words: &[u64],
+    width: u32,
+    var_widths: &[u32],
+    work: &mut [u64],
+) -> Result<ChainEnd, Refusal>
+    ensures { ChainGives (chain_admitted words.now width var_widths.now (length work.old)) width var_widths.now work.old work.new (mapped end_numbers (outcome result)) }
 {
-    match value::check_one_width(words, width, var_widths) {
-        Counted::Refused(r) => ChainAnswer::Refused(r),
-        Counted::Count(n) => {
-            let read = pairs_at(words);
-            if work.len() < 2 * (n + read.found.pairs) {
-                return ChainAnswer::Refused(Refusal::OutputTooSmall);
-            }
-            let built = build(words, width, work);
-            let len = built.len;
-            clear(&mut work[len..]);
-            ChainAnswer::End(len / 2, built.count)
-        }
+    let tree = value::one_width(words, width, var_widths)?;
+    let found = tree.fold(&Counting);
+    if work.len() < 2 * (tree.nodes() + found.pairs) {
+        return Err(Refusal::OutputTooSmall);
     }
+    let built = build(words, width, work);
+    let len = built.len;
+    work[len..].fill(0);
+    Ok(ChainEnd {
+        nodes: len / 2,
+        rewrites: built.count,
+    })
 }

@@ -1,5 +1,5 @@
 // `try_fold_binary` and its helpers. An operand is lent as exactly its words, and a decision names a part of the node's words by its place.
-ghost use Rattle.std.specs.Prelude.{◌≡◌, ◌+◌, ◌≤◌, length, get_or};
+ghost use Rattle.std.specs.Prelude.{◌≡◌, ◌+◌, ◌≤◌, length, get_or, Some};
 ghost use Rattle.std.proofs.Math.Option.{some};
 ghost use Rattle.expr.specs.Outcome.{accepted};
 ghost use Rattle.expr.specs.Expr.{encode};
@@ -7,27 +7,54 @@ ghost use Rattle.expr.specs.Parse.{arity_of};
 ghost use Rattle.expr.specs.Front.{Whole, tree_at, left_of, right_of};
 ghost use Rattle.rewriting.specs.Optional.{◌and_then◌};
 ghost use Rattle.rewriting.specs.AtomSimplifier.{constant, constant_val, same_part, is_not_of, are_complements, contains_operand, and, or, xor, kind_of, constant_arms, arms, folded_word, reassociate_constant, try_fold_binary, fold_rewrite};
-ghost use Rattle.atom_simplifier.specs.Promises.{constant_option, is_constant, either_constant, arm_tree, bitwise_of, IsBitwise, arm_rewrite, Decides, DecidesAt};
+ghost use Rattle.atom_simplifier.specs.Answers.{option_of};
+ghost use Rattle.atom_simplifier.specs.Promises.{is_constant, either_constant, arm_tree, bitwise_of, number_of, KindIs, arm_rewrite, Decides, DecidesAt};
 
 use crate::local::Decision;
-use expr::{Counted, kind};
+use crate::operands::Operands;
+use expr::kind;
 
-// What `constant_val` answers: the word of a Constant, or none.
+// The kinds that are folded.
 #[derive(Clone, Copy)]
-pub(crate) enum ConstantVal {
-    Word(u64),
-    None,
+pub(crate) enum Bitwise {
+    And,
+    Or,
+    Xor,
+}
+
+impl Bitwise {
+    // The folded kind of a kind word, if it is one.
+    pub(crate) fn of(kind: u64) -> Option<Bitwise>
+        ensures { KindIs kind result }
+    {
+        match kind {
+            kind::AND => Some(Bitwise::And),
+            kind::OR => Some(Bitwise::Or),
+            kind::XOR => Some(Bitwise::Xor),
+            _ => None,
+        }
+    }
+
+    fn kind(self) -> u64
+        ensures { result ≡ number_of self }
+    {
+        match self {
+            Bitwise::And => kind::AND,
+            Bitwise::Or => kind::OR,
+            Bitwise::Xor => kind::XOR,
+        }
+    }
 }
 
 // The only place where a constant is read: its word as it stands, whatever the width.
-fn constant_val(part: &[u64], width: u32) -> ConstantVal
+fn constant_val(part: &[u64], width: u32) -> Option<u64>
     requires { Whole part.now }
-    ensures { constant_option result ≡ constant_val width (tree_at part.now) }
+    ensures { option_of result ≡ constant_val width (tree_at part.now) }
 {
     if part[0] != kind::CONSTANT {
-        return ConstantVal::None;
+        return None;
     }
-    ConstantVal::Word(part[1])
+    Some(part[1])
 }
 
 // The only place where parts are compared: word by word, whatever the width.
@@ -43,10 +70,7 @@ pub(crate) fn is_constant(part: &[u64], c: u64, width: u32) -> bool
     requires { Whole part.now }
     ensures { result ≡ is_constant width (tree_at part.now) c }
 {
-    match constant_val(part, width) {
-        ConstantVal::Word(d) => d == c,
-        ConstantVal::None => false,
-    }
+    constant_val(part, width).is_some_and(|d| d == c)
 }
 
 // Whether one of the two parts is the Constant c.
@@ -85,19 +109,15 @@ pub(crate) fn right_at(node: &[u64]) -> usize
     requires { Whole node.now × (arity_of (get_or node.now 0 0) ≡ accepted 2) × (length node.now ≤ 1024) }
     ensures { result ≡ 2 + length (encode (left_of (tree_at node.now))) }
 {
-    match expr::span(&node[2..]) {
-        Counted::Count(n) => 2 + n,
-        // a tree's words are not refused
-        Counted::Refused(_) => 2,
-    }
+    2 + expr::span(&node[2..]).unwrap()
 }
 
 // Whether `whole` is a node of the kind `op` with `part` as one of its two operands.
-fn contains_operand(whole: &[u64], op: u64, part: &[u64], width: u32) -> bool
-    requires { Whole whole.now × Whole part.now × IsBitwise op × (length whole.now ≤ 1024) }
+fn contains_operand(whole: &[u64], op: Bitwise, part: &[u64], width: u32) -> bool
+    requires { Whole whole.now × Whole part.now × (length whole.now ≤ 1024) }
     ensures { result ≡ contains_operand width (tree_at whole.now) (kind_of (bitwise_of op)) (tree_at part.now) }
 {
-    if whole[0] != op {
+    if whole[0] != op.kind() {
         return false;
     }
     let right = right_at(whole);
@@ -107,7 +127,8 @@ fn contains_operand(whole: &[u64], op: u64, part: &[u64], width: u32) -> bool
     same_part(&whole[right..], part, width)
 }
 
-// What the arms of the fold make of two operands: one of them, a constant, or the node itself.
+// What the arms of the fold make of two operands: one of them, a constant, or the node itself, which is no lack of a tree: `constant_beside`
+// writes it.
 #[derive(Clone, Copy)]
 pub(crate) enum Arm {
     Left,
@@ -170,10 +191,10 @@ fn and_arms(lhs: &[u64], rhs: &[u64], width: u32) -> Arm
     if are_complements(lhs, rhs, width) {
         return Arm::Constant(0);
     }
-    if contains_operand(rhs, kind::OR, lhs, width) {
+    if contains_operand(rhs, Bitwise::Or, lhs, width) {
         return Arm::Left;
     }
-    if contains_operand(lhs, kind::OR, rhs, width) {
+    if contains_operand(lhs, Bitwise::Or, rhs, width) {
         return Arm::Right;
     }
     and_constants(lhs, rhs, width)
@@ -186,10 +207,10 @@ fn or_arms(lhs: &[u64], rhs: &[u64], width: u32) -> Arm
     if are_complements(lhs, rhs, width) {
         return Arm::Constant(arith::bitmask(width));
     }
-    if contains_operand(rhs, kind::AND, lhs, width) {
+    if contains_operand(rhs, Bitwise::And, lhs, width) {
         return Arm::Left;
     }
-    if contains_operand(lhs, kind::AND, rhs, width) {
+    if contains_operand(lhs, Bitwise::And, rhs, width) {
         return Arm::Right;
     }
     or_constants(lhs, rhs, width)
@@ -206,129 +227,124 @@ fn xor_arms(lhs: &[u64], rhs: &[u64], width: u32) -> Arm
 }
 
 // Complements, absorption, and the constants 0 and all ones.
-fn fold_arms(kind: u64, lhs: &[u64], rhs: &[u64], width: u32) -> Arm
+fn fold_arms(op: Bitwise, lhs: &[u64], rhs: &[u64], width: u32) -> Arm
     requires { Whole lhs.now × Whole rhs.now × (length lhs.now ≤ 1024) × (length rhs.now ≤ 1024) × (width ≤ 64) }
-    ensures { arm_tree (bitwise_of kind) (tree_at lhs.now) (tree_at rhs.now) result ≡ arms width (bitwise_of kind) (tree_at lhs.now) (tree_at rhs.now) }
+    ensures { arm_tree (bitwise_of op) (tree_at lhs.now) (tree_at rhs.now) result ≡ arms width (bitwise_of op) (tree_at lhs.now) (tree_at rhs.now) }
 {
-    match kind {
-        kind::AND => and_arms(lhs, rhs, width),
-        kind::OR => or_arms(lhs, rhs, width),
-        _ => xor_arms(lhs, rhs, width),
+    match op {
+        Bitwise::And => and_arms(lhs, rhs, width),
+        Bitwise::Or => or_arms(lhs, rhs, width),
+        Bitwise::Xor => xor_arms(lhs, rhs, width),
     }
 }
 
 // Two constants as one, masked to the width.
-fn folded_word(kind: u64, d: u64, c: u64, width: u32) -> u64
+fn folded_word(op: Bitwise, d: u64, c: u64, width: u32) -> u64
     requires { width ≤ 64 }
-    ensures { result ≡ folded_word width (bitwise_of kind) d c }
+    ensures { result ≡ folded_word width (bitwise_of op) d c }
 {
-    match kind {
-        kind::AND => arith::trunc(d & c, width),
-        kind::OR => arith::trunc(d | c, width),
-        _ => arith::trunc(d ^ c, width),
+    match op {
+        Bitwise::And => arith::trunc(d & c, width),
+        Bitwise::Or => arith::trunc(d | c, width),
+        Bitwise::Xor => arith::trunc(d ^ c, width),
     }
 }
 
-// The fold of the part at `from` with the constant c: what reassociation has found of the two, or else what the arms make of them.
-fn fold_constant(
-    found: Decision,
-    kind: u64,
-    part: &[u64],
-    from: usize,
-    c: u64,
-    width: u32,
-) -> Decision
-    requires { Whole part.now × IsBitwise kind × (length part.now ≤ 1024) × (width ≤ 64) × DecidesAt kind from part.now found (reassociate_constant width (bitwise_of kind) (tree_at part.now) c) }
-    ensures { DecidesAt kind from part.now result (some (try_fold_binary width (bitwise_of kind) (tree_at part.now) (constant c))) }
+// What the arms make of the part at `from` and the constant c.
+fn constant_beside(op: Bitwise, part: &[u64], from: usize, c: u64, width: u32) -> Decision
+    requires { Whole part.now × (length part.now ≤ 1024) × (width ≤ 64) }
+    ensures { DecidesAt (number_of op) from part.now (Some result) (some (arms width (bitwise_of op) (tree_at part.now) (constant c))) }
 {
-    match found {
-        Decision::Nothing => {
-            let constant = [kind::CONSTANT, c];
-            match fold_arms(kind, part, &constant, width) {
-                Arm::Left => Decision::Part(from, part.len()),
-                Arm::Right => Decision::Constant(c),
-                Arm::Constant(v) => Decision::Constant(v),
-                Arm::Node => Decision::Join(from, part.len(), c),
-            }
-        }
-        _ => found,
+    let constant = [kind::CONSTANT, c];
+    match fold_arms(op, part, &constant, width) {
+        Arm::Left => Decision::Part(from, part.len()),
+        Arm::Right => Decision::Constant(c),
+        Arm::Constant(v) => Decision::Constant(v),
+        Arm::Node => Decision::Join(from, part.len(), c),
     }
 }
 
 // The fold of the part at `from` with the constants d and c as one.
 #[cycle(fold_constants_reassociate_constant)]
-fn fold_constants(kind: u64, part: &[u64], from: usize, d: u64, c: u64, width: u32) -> Decision
-    requires { Whole part.now × IsBitwise kind × (from + length part.now ≤ 1024) × (width ≤ 64) }
-    ensures { DecidesAt kind from part.now result (some (try_fold_binary width (bitwise_of kind) (tree_at part.now) (constant (folded_word width (bitwise_of kind) d c)))) }
+fn fold_constants(op: Bitwise, part: &[u64], from: usize, d: u64, c: u64, width: u32) -> Decision
+    requires { Whole part.now × (from + length part.now ≤ 1024) × (width ≤ 64) }
+    ensures { DecidesAt (number_of op) from part.now (Some result) (some (try_fold_binary width (bitwise_of op) (tree_at part.now) (constant (folded_word width (bitwise_of op) d c)))) }
 {
-    let folded = folded_word(kind, d, c, width);
-    let found = reassociate_constant(kind, part, from, folded, width);
-    fold_constant(found, kind, part, from, folded, width)
+    let folded = folded_word(op, d, c, width);
+    match reassociate_constant(op, part, from, folded, width) {
+        Some(found) => found,
+        None => constant_beside(op, part, from, folded, width),
+    }
 }
 
 // `(x op d) op c`, or `(d op x) op c`, as the fold of x and `d op c`; `lhs` is the inner node, at `from`. The Rust calls `try_fold_binary`
 // again here, whose right operand is then that constant.
 #[cycle(fold_constants_reassociate_constant)]
-fn reassociate_constant(kind: u64, lhs: &[u64], from: usize, rhs_const: u64, width: u32) -> Decision
-    requires { Whole lhs.now × IsBitwise kind × (from + length lhs.now ≤ 1024) × (width ≤ 64) }
-    ensures { DecidesAt kind from lhs.now result (reassociate_constant width (bitwise_of kind) (tree_at lhs.now) rhs_const) }
+fn reassociate_constant(
+    op: Bitwise,
+    lhs: &[u64],
+    from: usize,
+    rhs_const: u64,
+    width: u32,
+) -> Option<Decision>
+    requires { Whole lhs.now × (from + length lhs.now ≤ 1024) × (width ≤ 64) }
+    ensures { DecidesAt (number_of op) from lhs.now result (reassociate_constant width (bitwise_of op) (tree_at lhs.now) rhs_const) }
 {
-    if lhs[0] != kind {
-        return Decision::Nothing;
+    if lhs[0] != op.kind() {
+        return None;
     }
     let right = right_at(lhs);
     let l = &lhs[2..right];
     let r = &lhs[right..];
-    if let ConstantVal::Word(d) = constant_val(r, width) {
-        return fold_constants(kind, l, from + 2, d, rhs_const, width);
+    if let Some(d) = constant_val(r, width) {
+        return Some(fold_constants(op, l, from + 2, d, rhs_const, width));
     }
-    if let ConstantVal::Word(d) = constant_val(l, width) {
-        return fold_constants(kind, r, from + right, d, rhs_const, width);
-    }
-    Decision::Nothing
+    let d = constant_val(l, width)?;
+    Some(fold_constants(op, r, from + right, d, rhs_const, width))
 }
 
 // Reassociation of the operand x, at `from`, with the other operand y, where y is a constant.
-fn reassociate_beside(kind: u64, x: &[u64], from: usize, y: &[u64], width: u32) -> Decision
-    requires { Whole x.now × Whole y.now × IsBitwise kind × (from + length x.now ≤ 1024) × (width ≤ 64) }
-    ensures { DecidesAt kind from x.now result (constant_val width (tree_at y.now) and_then reassociate_constant width (bitwise_of kind) (tree_at x.now)) }
+fn reassociate_beside(
+    op: Bitwise,
+    x: &[u64],
+    from: usize,
+    y: &[u64],
+    width: u32,
+) -> Option<Decision>
+    requires { Whole x.now × Whole y.now × (from + length x.now ≤ 1024) × (width ≤ 64) }
+    ensures { DecidesAt (number_of op) from x.now result (constant_val width (tree_at y.now) and_then reassociate_constant width (bitwise_of op) (tree_at x.now)) }
 {
-    match constant_val(y, width) {
-        ConstantVal::Word(c) => reassociate_constant(kind, x, from, c, width),
-        ConstantVal::None => Decision::Nothing,
-    }
+    let c = constant_val(y, width)?;
+    reassociate_constant(op, x, from, c, width)
 }
 
 // What the arms make of a node, where it is another tree.
-fn fold_node_arms(node: &[u64], right: usize, width: u32) -> Decision
-    requires { Whole node.now × IsBitwise (get_or node.now 0 0) × (right ≡ 2 + length (encode (left_of (tree_at node.now)))) × (length node.now ≤ 1024) × (width ≤ 64) }
-    ensures { Decides node.now result (arm_rewrite width (bitwise_of (get_or node.now 0 0)) (left_of (tree_at node.now)) (right_of (tree_at node.now))) }
+fn fold_node_arms(op: Bitwise, operands: Operands<'_>, width: u32) -> Option<Decision>
+    requires { (get_or operands.node.now 0 0 ≡ number_of op) × (width ≤ 64) }
+    ensures { Decides operands.entry.node.now result (arm_rewrite width (bitwise_of op) (left_of (tree_at operands.entry.node.now)) (right_of (tree_at operands.entry.node.now))) }
 {
-    match fold_arms(node[0], &node[2..right], &node[right..], width) {
-        Arm::Left => Decision::Part(2, right - 2),
-        Arm::Right => Decision::Part(right, node.len() - right),
-        Arm::Constant(c) => Decision::Constant(c),
-        Arm::Node => Decision::Nothing,
+    let right = operands.right;
+    match fold_arms(op, operands.lhs(), operands.rhs(), width) {
+        Arm::Left => Some(Decision::Part(2, right - 2)),
+        Arm::Right => Some(Decision::Part(right, operands.node.len() - right)),
+        Arm::Constant(c) => Some(Decision::Constant(c)),
+        Arm::Node => None,
     }
 }
 
-// The fold of a node, where it gives another tree. Such a tree has fewer nodes (ShapeLaws, `reassociated_less`), so that the two are not compared.
-pub(crate) fn try_fold_binary(node: &[u64], right: usize, width: u32) -> Decision
-    requires { Whole node.now × IsBitwise (get_or node.now 0 0) × (right ≡ 2 + length (encode (left_of (tree_at node.now)))) × (length node.now ≤ 1024) × (width ≤ 64) }
-    ensures { Decides node.now result (fold_rewrite width (bitwise_of (get_or node.now 0 0)) (left_of (tree_at node.now)) (right_of (tree_at node.now))) }
+// The fold of a node of the kind `op`, where it gives another tree: reassociation with the right operand's constant, or else with the left one's,
+// or else the arms. Such a tree has fewer nodes (ShapeLaws, `reassociated_less`), so that the two are not compared.
+pub(crate) fn try_fold_binary(op: Bitwise, operands: Operands<'_>, width: u32) -> Option<Decision>
+    requires { (get_or operands.node.now 0 0 ≡ number_of op) × (width ≤ 64) }
+    ensures { Decides operands.entry.node.now result (fold_rewrite width (bitwise_of op) (left_of (tree_at operands.entry.node.now)) (right_of (tree_at operands.entry.node.now))) }
 {
-    let kind = node[0];
-    let lhs = &node[2..right];
-    let rhs = &node[right..];
-    let found = reassociate_beside(kind, lhs, 2, rhs, width);
-    match found {
-        Decision::Nothing => {}
-        _ => return found,
+    let lhs = operands.lhs();
+    let rhs = operands.rhs();
+    if let Some(found) = reassociate_beside(op, lhs, 2, rhs, width) {
+        return Some(found);
     }
-    let found = reassociate_beside(kind, rhs, right, lhs, width);
-    match found {
-        Decision::Nothing => {}
-        _ => return found,
+    if let Some(found) = reassociate_beside(op, rhs, operands.right, lhs, width) {
+        return Some(found);
     }
-    fold_node_arms(node, right, width)
+    fold_node_arms(op, operands, width)
 }

@@ -6,52 +6,42 @@
 ghost use Rattle.std.specs.Prelude.{◌≡◌, ◌≤◌, length};
 ghost use Rattle.expr.specs.Outcome.{mapped};
 ghost use Rattle.expr.specs.Expr.{encode, nodes};
-ghost use Rattle.expr.specs.Answers.{counted_outcome};
+ghost use Rattle.expr.specs.Answers.{outcome};
 ghost use Rattle.rewriting.specs.Optional.{map};
 ghost use Rattle.atom_simplifier.specs.Calls.{admitted, local_rewrite_at, first_site_at, written};
 ghost use Rattle.atom_simplifier.specs.Promises.{site_words, Writes, HoldsSite};
-ghost use Rattle.atom_simplifier.specs.Answers.{rewrite_outcome, site_outcome};
+ghost use Rattle.atom_simplifier.specs.Answers.{option_of, site_numbers};
 
 pub mod chain;
 mod fold;
 mod local;
+mod operands;
 mod search;
 mod write;
 
-use expr::Counted;
 use expr::refusal::Refusal;
-use local::Decision;
-use search::{Search, Site};
+use search::Site;
+use std::ops::ControlFlow;
 
-// The nodes of the replacement, none, or a refusal.
-#[derive(Clone, Copy)]
-pub enum RewriteAnswer {
-    Rewritten(usize),
-    None,
-    Refused(Refusal),
-}
+// A path has a byte for each level below the root, of which a tree has at most so many.
+const PATH_BYTES: usize = 63;
 
-// The bytes of the path and the nodes of the replacement, none, or a refusal.
-#[derive(Clone, Copy)]
-pub enum SiteAnswer {
-    Site(usize, usize),
-    None,
-    Refused(Refusal),
+// A site: the bytes of its path, and the nodes of what it becomes.
+#[derive(Clone, Copy, PartialEq, Eq)]
+pub struct FoundSite {
+    pub path: usize,
+    pub nodes: usize,
 }
 
 // The nodes of a tree that can be rewritten into an output of `room` words, or the refusal.
-fn admit(words: &[u64], width: u32, room: usize) -> Counted
-    ensures { counted_outcome result ≡ mapped nodes (admitted words.now width room) }
+fn admit(words: &[u64], width: u32, room: usize) -> Result<usize, Refusal>
+    ensures { outcome result ≡ mapped nodes (admitted words.now width room) }
 {
-    match width::check_tree_at(words, width) {
-        Counted::Refused(r) => Counted::Refused(r),
-        Counted::Count(n) => {
-            if room < 2 * (n + 1) {
-                return Counted::Refused(Refusal::OutputTooSmall);
-            }
-            Counted::Count(n)
-        }
+    let n = width::check_tree_at(words, width)?;
+    if room < 2 * (n + 1) {
+        return Err(Refusal::OutputTooSmall);
     }
+    Ok(n)
 }
 
 // Writes what a site of the words becomes; the number of words that are written.
@@ -65,46 +55,43 @@ fn write_site(words: &[u64], site: Site, width: u32, out: &mut [u64]) -> usize
     write::write_replacement(&words[at..end], decided, width, out)
 }
 
-// What the tree becomes at its root. The replacement's words are written at the front of `out`, and nothing else.
-pub fn local_certifiable_atom_rewrite(words: &[u64], width: u32, out: &mut [u64]) -> RewriteAnswer
-    ensures { (rewrite_outcome result ≡ mapped (map nodes) (local_rewrite_at words.now width (length out.old))) × (out.new ≡ written encode (local_rewrite_at words.now width (length out.old)) out.old) }
+// What the tree becomes at its root: the nodes of the replacement, if it has one. Its words are written at the front of `out`, and nothing else.
+pub fn local_certifiable_atom_rewrite(
+    words: &[u64],
+    width: u32,
+    out: &mut [u64],
+) -> Result<Option<usize>, Refusal>
+    ensures { (mapped option_of (outcome result) ≡ mapped (map nodes) (local_rewrite_at words.now width (length out.old))) × (out.new ≡ written encode (local_rewrite_at words.now width (length out.old)) out.old) }
 {
-    match admit(words, width, out.len()) {
-        Counted::Refused(r) => RewriteAnswer::Refused(r),
-        Counted::Count(_) => {
-            let decided = local::root_rewrite(words, width);
-            match decided {
-                Decision::Nothing => RewriteAnswer::None,
-                _ => RewriteAnswer::Rewritten(
-                    write::write_replacement(words, decided, width, out) / 2,
-                ),
-            }
-        }
-    }
+    admit(words, width, out.len())?;
+    let Some(decided) = local::root_rewrite(words, width) else {
+        return Ok(None);
+    };
+    let n = write::write_replacement(words, decided, width, out);
+    Ok(Some(n / 2))
 }
 
-// The first site: its path, a byte 0 or 1 for each level, at the front of `path`, and what it becomes at the front of `out`.
+// The first site, if there is one: its path, a byte 0 or 1 for each level, at the front of `path`, and what it becomes at the front of `out`.
 pub fn find_first_certifiable_atom_rewrite(
     words: &[u64],
     width: u32,
     path: &mut [u8],
     out: &mut [u64],
-) -> SiteAnswer
-    ensures { (site_outcome result ≡ mapped (map (λ s. (length s.path, nodes s.replacement))) (first_site_at words.now width (length path.old) (length out.old))) × (path.new ≡ written (λ s. s.path) (first_site_at words.now width (length path.old) (length out.old)) path.old) × (out.new ≡ written (λ s. encode s.replacement) (first_site_at words.now width (length path.old) (length out.old)) out.old) }
+) -> Result<Option<FoundSite>, Refusal>
+    ensures { (mapped (λ o. map site_numbers (option_of o)) (outcome result) ≡ mapped (map (λ s. (length s.path, nodes s.replacement))) (first_site_at words.now width (length path.old) (length out.old))) × (path.new ≡ written (λ s. s.path) (first_site_at words.now width (length path.old) (length out.old)) path.old) × (out.new ≡ written (λ s. encode s.replacement) (first_site_at words.now width (length path.old) (length out.old)) out.old) }
 {
-    match admit(words, width, out.len()) {
-        Counted::Refused(r) => SiteAnswer::Refused(r),
-        Counted::Count(_) => {
-            if path.len() < 63 {
-                return SiteAnswer::Refused(Refusal::OutputTooSmall);
-            }
-            match search::find_first_certifiable_atom_rewrite_at(words, width, path) {
-                Search::None(_) => SiteAnswer::None,
-                Search::Found(site) => {
-                    let n = write_site(words, site, width, out);
-                    SiteAnswer::Site(site.levels, n / 2)
-                }
-            }
+    admit(words, width, out.len())?;
+    if path.len() < PATH_BYTES {
+        return Err(Refusal::OutputTooSmall);
+    }
+    match search::find_first_certifiable_atom_rewrite_at(words, width, path) {
+        ControlFlow::Continue(_) => Ok(None),
+        ControlFlow::Break(site) => {
+            let n = write_site(words, site, width, out);
+            Ok(Some(FoundSite {
+                path: site.levels,
+                nodes: n / 2,
+            }))
         }
     }
 }

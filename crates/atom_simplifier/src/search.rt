@@ -12,7 +12,9 @@ ghost use Rattle.atom_simplifier.specs.Promises.{at_root, under_parent, Searched
 
 use crate::local;
 use crate::local::Decision;
+use crate::operands::Operands;
 use expr::Arity;
+use std::ops::ControlFlow;
 
 // A site: where its words begin, how many there are, how many levels it is below the tree's root, and what it becomes.
 #[derive(Clone, Copy)]
@@ -23,20 +25,13 @@ pub(crate) struct Site {
     pub(crate) local: Decision,
 }
 
-// The first site, or none and the number of the tree's words.
-#[derive(Clone, Copy)]
-pub(crate) enum Search {
-    None(usize),
-    Found(Site),
-}
-
-// The answer for a root whose children have no site.
-fn at_root(words: usize, local: Decision) -> Search
-    ensures { result ≡ at_root words local }
+// The answer for a root whose children have no site: the site that ends the search, or the number of the tree's words, behind which it goes on.
+fn at_root(words: usize, decided: Option<Decision>) -> ControlFlow<Site, usize>
+    ensures { result ≡ at_root words decided }
 {
-    match local {
-        Decision::Nothing => Search::None(words),
-        _ => Search::Found(Site {
+    match decided {
+        None => ControlFlow::Continue(words),
+        Some(local) => ControlFlow::Break(Site {
             at: 0,
             words,
             levels: 0,
@@ -61,33 +56,43 @@ fn under_parent(site: Site, from: usize) -> Site
 
 // The child whose words begin at `from`. The path to a site is written once it is found, from its last byte to its first.
 #[cycle(find_first_certifiable_atom_rewrite_at_find_from_right_find_in_child)]
-fn find_in_child(ws: &[u64], from: usize, byte: u8, width: u32, path: &mut [u8]) -> Search
+fn find_in_child(
+    ws: &[u64],
+    from: usize,
+    byte: u8,
+    width: u32,
+    path: &mut [u8],
+) -> ControlFlow<Site, usize>
     requires { (1 ≤ from) × (from ≤ length ws.now) × Starts (tail from ws.now) × (length ws.now ≤ 1024) × (width ≤ 64) × (depth (tree_at (tail from ws.now)) ≤ length path.old) }
     ensures { Searched (map (below byte) (first_site width (tree_at (tail from ws.now)))) ws.now (length (encode (tree_at (tail from ws.now)))) path.old path.new result }
 {
     match find_first_certifiable_atom_rewrite_at(&ws[from..], width, &mut path[1..]) {
-        Search::None(n) => Search::None(n),
-        Search::Found(site) => {
+        ControlFlow::Continue(n) => ControlFlow::Continue(n),
+        ControlFlow::Break(site) => {
             path[0] = byte;
-            Search::Found(under_parent(site, from))
+            ControlFlow::Break(under_parent(site, from))
         }
     }
 }
 
 // The right child and then the root of a tree whose left child has no site; `right` is where the right one's words begin.
 #[cycle(find_first_certifiable_atom_rewrite_at_find_from_right_find_in_child)]
-fn find_from_right(ws: &[u64], right: usize, width: u32, path: &mut [u8]) -> Search
+fn find_from_right(
+    ws: &[u64],
+    right: usize,
+    width: u32,
+    path: &mut [u8],
+) -> ControlFlow<Site, usize>
     requires { Starts ws.now × (arity_of (get_or ws.now 0 0) ≡ accepted 2) × (right ≡ 2 + length (encode (tree_at (tail 2 ws.now)))) × (length ws.now ≤ 1024) × (width ≤ 64) × (depth (tree_at ws.now) ≤ length path.old + 1) }
     ensures { Searched (map (below 1) (first_site width (tree_at (tail right ws.now))) or_else map here (local_rewrite width (tree_at ws.now))) ws.now (length (encode (tree_at ws.now))) path.old path.new result }
 {
-    let child = find_in_child(ws, right, 1, width, path);
-    match child {
-        Search::Found(_) => child,
-        Search::None(n) => {
-            let words = right + n;
-            at_root(words, local::binary_rewrite(&ws[0..words], right, width))
-        }
-    }
+    let n = find_in_child(ws, right, 1, width, path)?;
+    let words = right + n;
+    let operands = Operands {
+        node: &ws[0..words],
+        right,
+    };
+    at_root(words, local::binary_rewrite(operands, width))
 }
 
 // The tree at the front of the words.
@@ -96,31 +101,21 @@ pub(crate) fn find_first_certifiable_atom_rewrite_at(
     ws: &[u64],
     width: u32,
     path: &mut [u8],
-) -> Search
+) -> ControlFlow<Site, usize>
     requires { Starts ws.now × (length ws.now ≤ 1024) × (width ≤ 64) × (depth (tree_at ws.now) ≤ length path.old + 1) }
     ensures { Searched (first_site width (tree_at ws.now)) ws.now (length (encode (tree_at ws.now))) path.old path.new result }
 {
     let kind = ws[0];
-    match expr::arity_of(kind) {
-        Arity::Zero => Search::None(2),
+    match expr::arity_of(kind).unwrap() {
+        Arity::Zero => ControlFlow::Continue(2),
         Arity::One => {
-            let child = find_in_child(ws, 2, 0, width, path);
-            match child {
-                Search::Found(_) => child,
-                Search::None(n) => {
-                    let words = 2 + n;
-                    at_root(words, local::unary_rewrite(&ws[0..words]))
-                }
-            }
+            let n = find_in_child(ws, 2, 0, width, path)?;
+            let words = 2 + n;
+            at_root(words, local::unary_rewrite(&ws[0..words]))
         }
         Arity::Two => {
-            let left = find_in_child(ws, 2, 0, width, path);
-            match left {
-                Search::Found(_) => left,
-                Search::None(n) => find_from_right(ws, 2 + n, width, path),
-            }
+            let left = find_in_child(ws, 2, 0, width, path)?;
+            find_from_right(ws, 2 + left, width, path)
         }
-        // no tree has such a kind
-        Arity::Refused(_) => Search::None(2),
     }
 }

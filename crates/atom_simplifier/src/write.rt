@@ -68,7 +68,6 @@ pub(crate) fn write_replacement(node: &[u64], local: Decision, width: u32, out: 
     ensures { Writes node.now local out.old out.new result }
 {
     match local {
-        Decision::Nothing => 0,
         Decision::Part(at, len) => {
             copy(&node[at..at + len], width, out);
             len
@@ -93,13 +92,8 @@ pub(crate) fn move_down(ws: &mut [u64], by: usize, len: usize)
     requires { by + len ≤ length ws.old }
     ensures { Laid ws.old ws.new (part by (by + len) ws.old) }
 {
-    if by == 0 {
-        return;
-    }
-    let mut i = 0;
-    while i < len {
-        ws[i] = ws[by + i];
-        i += 1;
+    if by > 0 {
+        ws.copy_within(by..by + len, 0);
     }
 }
 
@@ -133,6 +127,7 @@ pub(crate) fn replace(node: &mut [u64], len: usize, local: Decision) -> usize
             join_down(node, at, n, c);
             4 + n
         }
-        _ => len,
+        // more words than the node has
+        Decision::DeMorgan(_) => len,
     }
 }

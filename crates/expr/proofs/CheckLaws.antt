@@ -8,19 +8,16 @@ use lib.Seq.{drop_at}
 use mir.Syntax.{w64}
 use mir.Val.{Fits}
 use Rattle.expr.specs.declared.refusal.Reason.{Reason}
-use Rattle.expr.specs.declared.refusal.Refusal.{Refusal}
 use Rattle.expr.specs.declared.Arity.{Arity}
-use Rattle.expr.specs.declared.Arity.TheVariants as arity
-use Rattle.expr.specs.declared.Counted.{Counted}
-use Rattle.expr.specs.declared.Counted.TheVariants.{Count, Refused}
-use Rattle.expr.specs.Refusals.{refusal, reason_of}
+use Rattle.expr.specs.declared.Arity.TheVariants.{Zero, One, Two}
+use Rattle.expr.specs.Refusals.{refusal}
 use Rattle.expr.specs.Outcome.{Outcome, refused, accepted, mapped, ◌and_then◌}
 use Rattle.expr.specs.OutcomeLaws.{then_accepted, then_refused, Made, mapped_made}
 use Rattle.expr.specs.Expr.{Expr, unary, binary, encode, nodes}
 use Rattle.expr.specs.ExprLaws.{length_encode}
 use Rattle.expr.specs.Parse.{Kind, none, one, two, arity, node_kind, children, node, subtree}
 use Rattle.expr.specs.ParseLaws.{node_read, Begins, subtree_sound}
-use Rattle.expr.specs.Answers.{arity_outcome, counted_outcome}
+use Rattle.expr.specs.Answers.{children_of}
 use Rattle.expr.specs.Parts.{tail}
 use Rattle.expr.specs.TailLaws.{tail_drop, length_tail}
 
@@ -98,9 +95,9 @@ module _ (next : List ℕ → Outcome (Expr × List ℕ)) (ws : List ℕ) where
       go (accepted p) = ap accepted (omega arith)
 
 -- a count that was found lies within the words, and the rest follows it
-module _ (d n : ℕ) (ws : List ℕ) (x : Counted) (e : counted_outcome x ≡ mapped count (subtree d ws)) (f : x ≡ Count n) where
+module _ (d n : ℕ) (ws : List ℕ) (e : accepted n ≡ mapped count (subtree d ws)) where
   pub found : Made count (subtree d ws) n
-  found = mapped_made count (subtree d ws) (ap counted_outcome (sym f) ∙ e)
+  found = mapped_made count (subtree d ws) e
 
   begins : Begins d ws found.answer.0 found.answer.1
   begins = subtree_sound d ws found.answer.0 found.answer.1 found.was
@@ -123,18 +120,18 @@ module _ (d : ℕ) (ws : List ℕ) where
   pub too_short : length ws < 2 → refused (refusal 6) ≡ mapped count (subtree d ws)
   too_short h = sym (ap (mapped count) (short d ws h))
 
-  module _ (h : 2 ≤ length ws) (a : Arity) (e : arity_outcome a ≡ mapped arity (kind_here d ws)) where
-    pub node_refused : (r : Refusal) → a ≡ arity.Refused r → refused (reason_of r) ≡ mapped count (subtree d ws)
-    node_refused r f = go (kind_here d ws) refl (ap arity_outcome (sym f) ∙ e)
+  module _ (h : 2 ≤ length ws) where
+    pub node_refused : (r : Reason) → refused r ≡ mapped arity (kind_here d ws) → refused r ≡ mapped count (subtree d ws)
+    node_refused r e = go (kind_here d ws) refl e
       where
-        go : (x : Outcome Kind) → kind_here d ws ≡ x → refused (reason_of r) ≡ mapped arity x → refused (reason_of r) ≡ mapped count (subtree d ws)
-        go (refused q) g i = let s : reason_of r ≡ q = cc in ap refused s ∙ sym (ap (mapped count) (stopped d ws h g))
+        go : (x : Outcome Kind) → kind_here d ws ≡ x → refused r ≡ mapped arity x → refused r ≡ mapped count (subtree d ws)
+        go (refused q) g i = let s : r ≡ q = cc in ap refused s ∙ sym (ap (mapped count) (stopped d ws h g))
         go (accepted κ) g i = absurd (let z : ◌≡◌ {A = ℕ} 0 1 = cc in omega arith)
 
     -- a node that is not refused has a kind of that many children, and a level
-    module _ (n : ℕ) (f : accepted n ≡ arity_outcome a) where
+    module _ (n : ℕ) (e : accepted n ≡ mapped arity (kind_here d ws)) where
       kind : Made arity (kind_here d ws) n
-      kind = mapped_made arity (kind_here d ws) (f ∙ e)
+      kind = mapped_made arity (kind_here d ws) e
 
       has_level : 1 ≤ d
       has_level = (node_read d (get_or ws 0 0) (get_or ws 1 0) kind.was).level
@@ -142,50 +139,62 @@ module _ (d : ℕ) (ws : List ℕ) where
       of_node : (x : Outcome ℕ) → x ≡ mapped count (children (subtree (d - 1)) kind.answer (tail 2 ws)) → x ≡ mapped count (subtree d ws)
       of_node x g = g ∙ sym (ap (mapped count) (read_on d ws h kind.was))
 
-    pub one_level : a ≡ arity.One → 1 ≤ d
-    one_level f = has_level 1 (ap arity_outcome (sym f))
+    module _ (a : Arity) (e : accepted (children_of a) ≡ mapped arity (kind_here d ws)) where
+      -- the same of an arity that is known
+      of_arity : (b : Arity) → a ≡ b → accepted (children_of b) ≡ mapped arity (kind_here d ws)
+      of_arity b f = ap (λ (c : Arity). accepted (children_of c)) (sym f) ∙ e
 
-    pub two_level : a ≡ arity.Two → 1 ≤ d
-    two_level f = has_level 2 (ap arity_outcome (sym f))
+      pub one_level : a ≡ One → 1 ≤ d
+      one_level f = has_level 1 (of_arity One f)
 
-    pub leaf_case : a ≡ arity.Zero → accepted 1 ≡ mapped count (subtree d ws)
-    leaf_case f = let g = ap arity_outcome (sym f) in of_node 0 g (accepted 1) (leaf_count (subtree (d - 1)) (tail 2 ws) (kind 0 g).answer (kind 0 g).made)
+      pub two_level : a ≡ Two → 1 ≤ d
+      two_level f = has_level 2 (of_arity Two f)
 
-    module _ (x : Counted) (i : counted_outcome x ≡ mapped count (subtree (d - 1) (tail 2 ws))) where
-      one_over : (f : a ≡ arity.One) → mapped (λ n. n + 1) (counted_outcome x) ≡ mapped count (subtree d ws)
-      one_over f =
-          let g = ap arity_outcome (sym f) in
-          of_node 1 g _ (ap (mapped (λ n. n + 1)) i ∙ one_count (subtree (d - 1)) (tail 2 ws) (kind 1 g).answer (kind 1 g).made)
+      pub leaf_case : a ≡ Zero → accepted 1 ≡ mapped count (subtree d ws)
+      leaf_case f =
+          let k = kind 0 (of_arity Zero f) in
+          of_node 0 (of_arity Zero f) (accepted 1) (leaf_count (subtree (d - 1)) (tail 2 ws) k.answer k.made)
 
-      pub one_case : (y : Counted) (z : Outcome ℕ) → a ≡ arity.One → x ≡ y → z ≡ mapped (λ n. n + 1) (counted_outcome y) → z ≡ mapped count (subtree d ws)
-      one_case y z f j k = k ∙ ap (λ (v : Counted). mapped (λ n. n + 1) (counted_outcome v)) (sym j) ∙ one_over f
+      pub one_case : (f : a ≡ One) (x : Outcome ℕ) → x ≡ mapped count (subtree (d - 1) (tail 2 ws)) → mapped (λ n. n + 1) x ≡ mapped count (subtree d ws)
+      one_case f x i =
+          let k = kind 1 (of_arity One f) in
+          of_node 1 (of_arity One f) _ (ap (mapped (λ n. n + 1)) i ∙ one_count (subtree (d - 1)) (tail 2 ws) k.answer k.made)
 
-      pub left_refused : (r : Refusal) → a ≡ arity.Two → x ≡ Refused r → refused (reason_of r) ≡ mapped count (subtree d ws)
-      left_refused r f j =
-          let g = ap arity_outcome (sym f) in
-          of_node 2 g _ (left_stops (subtree (d - 1)) (tail 2 ws) (kind 2 g).answer (kind 2 g).made (ap counted_outcome (sym j) ∙ i))
+      pub one_counted : (f : a ≡ One) (n : ℕ) → accepted n ≡ mapped count (subtree (d - 1) (tail 2 ws)) → accepted (n + 1) ≡ mapped count (subtree d ws)
+      one_counted f n i = one_case f (accepted n) i
 
-      module _ (n : ℕ) (f : a ≡ arity.Two) (j : x ≡ Count n) (y : Counted) (k : counted_outcome y ≡ mapped count (subtree (d - 1) (tail (2 * n) (tail 2 ws)))) where
-        two_over : mapped (λ m. n + m + 1) (counted_outcome y) ≡ mapped count (subtree d ws)
-        two_over =
-            let g = ap arity_outcome (sym f) in
-            let l = found (d - 1) n (tail 2 ws) x i j in
-            of_node 2 g _
-            (ap (mapped (λ m. n + m + 1)) (k ∙ ap (λ (s : List ℕ). mapped count (subtree (d - 1) s)) (sym (rest_tail (d - 1) n (tail 2 ws) x i j)))
-            ∙ ap (λ (o : ℕ). mapped (λ m. o + m + 1) (mapped count (subtree (d - 1) l.answer.1))) (sym l.made)
-            ∙ two_count (subtree (d - 1)) (tail 2 ws) (kind 2 g).answer l.answer.0 l.answer.1 (kind 2 g).made l.was)
+      pub one_refused : (f : a ≡ One) (r : Reason) → refused r ≡ mapped count (subtree (d - 1) (tail 2 ws)) → refused r ≡ mapped count (subtree d ws)
+      one_refused f r i = one_case f (refused r) i
 
-        pub two_case : (v : Counted) (z : Outcome ℕ) → y ≡ v → z ≡ mapped (λ m. n + m + 1) (counted_outcome v) → z ≡ mapped count (subtree d ws)
-        two_case v z o p = p ∙ ap (λ (u : Counted). mapped (λ m. n + m + 1) (counted_outcome u)) (sym o) ∙ two_over
+      module _ (f : a ≡ Two) where
+        pub left_refused : (r : Reason) → refused r ≡ mapped count (subtree (d - 1) (tail 2 ws)) → refused r ≡ mapped count (subtree d ws)
+        left_refused r i =
+            let k = kind 2 (of_arity Two f) in
+            of_node 2 (of_arity Two f) _ (left_stops (subtree (d - 1)) (tail 2 ws) k.answer k.made i)
+
+        module _ (n : ℕ) (i : accepted n ≡ mapped count (subtree (d - 1) (tail 2 ws))) where
+          two_case : (y : Outcome ℕ) → y ≡ mapped count (subtree (d - 1) (tail (2 * n) (tail 2 ws))) → mapped (λ m. n + m + 1) y ≡ mapped count (subtree d ws)
+          two_case y k =
+              let l = found (d - 1) n (tail 2 ws) i in
+              of_node 2 (of_arity Two f) _
+              (ap (mapped (λ m. n + m + 1)) (k ∙ ap (λ (s : List ℕ). mapped count (subtree (d - 1) s)) (sym (rest_tail (d - 1) n (tail 2 ws) i)))
+              ∙ ap (λ (o : ℕ). mapped (λ m. o + m + 1) (mapped count (subtree (d - 1) l.answer.1))) (sym l.made)
+              ∙ two_count (subtree (d - 1)) (tail 2 ws) (kind 2 (of_arity Two f)).answer l.answer.0 l.answer.1 (kind 2 (of_arity Two f)).made l.was)
+
+          pub two_counted : (m : ℕ) → accepted m ≡ mapped count (subtree (d - 1) (tail (2 * n) (tail 2 ws))) → accepted (n + m + 1) ≡ mapped count (subtree d ws)
+          two_counted m k = two_case (accepted m) k
+
+          pub right_refused : (r : Reason) → refused r ≡ mapped count (subtree (d - 1) (tail (2 * n) (tail 2 ws))) → refused r ≡ mapped count (subtree d ws)
+          right_refused r k = two_case (refused r) k
 
 -- ---- the sums fit
 
 pub level_falls : (d t : ℕ) → 1 ≤ d → d ≡ t → d - 1 < t
 level_falls d t h e = omega arith
 
-module _ (d n : ℕ) (ws : List ℕ) (x : Counted) (e : counted_outcome x ≡ mapped count (subtree d (tail 2 ws))) (f : x ≡ Count n) where
+module _ (d n : ℕ) (ws : List ℕ) (e : accepted n ≡ mapped count (subtree d (tail 2 ws))) where
   pub right_within : 2 * n ≤ length (tail 2 ws)
-  right_within = found_fits d n (tail 2 ws) x e f
+  right_within = found_fits d n (tail 2 ws) e
 
   pub one_fits : length ws < 2 ^ 64 → Fits w64 (n + 1)
   one_fits h = omega (arith, right_within, length_tail 2 ws)
@@ -196,9 +205,9 @@ module _ (d n : ℕ) (ws : List ℕ) (x : Counted) (e : counted_outcome x ≡ ma
   pub right_scaled : length ws * 8 < 2 ^ 63 → Fits w64 (2 * n * 8)
   right_scaled h = omega (arith, right_within, length_tail 2 ws)
 
-  module _ (m : ℕ) (y : Counted) (i : counted_outcome y ≡ mapped count (subtree d (tail (2 * n) (tail 2 ws)))) (j : y ≡ Count m) (h : length ws < 2 ^ 64) where
+  module _ (m : ℕ) (i : accepted m ≡ mapped count (subtree d (tail (2 * n) (tail 2 ws)))) (h : length ws < 2 ^ 64) where
     pub both_fit : Fits w64 (n + m)
-    both_fit = omega (arith, right_within, found_fits d m _ y i j, length_tail (2 * n) (tail 2 ws), length_tail 2 ws)
+    both_fit = omega (arith, right_within, found_fits d m _ i, length_tail (2 * n) (tail 2 ws), length_tail 2 ws)
 
     pub two_fit : 2 ≤ length ws → Fits w64 (n + m + 1)
-    two_fit k = omega (arith, right_within, found_fits d m _ y i j, length_tail (2 * n) (tail 2 ws), length_tail 2 ws)
+    two_fit k = omega (arith, right_within, found_fits d m _ i, length_tail (2 * n) (tail 2 ws), length_tail 2 ws)

@@ -11,16 +11,15 @@ use borrow.Author.Tests.{not-true, not-false}
 use mir.Facts.{and_yes}
 use Rattle.arith.specs.ChoiceLaws.{if_yes}
 use Rattle.expr.specs.declared.refusal.Reason.{Reason}
-use Rattle.expr.specs.declared.refusal.Refusal.{Refusal}
 use Rattle.expr.specs.declared.Arity.{Arity}
-use Rattle.expr.specs.declared.Arity.TheVariants.{Zero, One, Two, Refused}
-use Rattle.expr.specs.Refusals.{refusal, reason_of}
+use Rattle.expr.specs.declared.Arity.TheVariants.{Zero, One, Two}
+use Rattle.expr.specs.Refusals.{refusal}
 use Rattle.expr.specs.Outcome.{refused, accepted, mapped}
 use Rattle.expr.specs.OutcomeLaws.{then_refused, mapped_mapped, mapped_same}
 use Rattle.expr.specs.Parse.{arity_of, word_count_ok}
 use Rattle.expr.specs.Span.{due_words, span_of}
 use Rattle.expr.specs.SpanLaws.{due_none, due_node}
-use Rattle.expr.specs.Answers.{arity_outcome}
+use Rattle.expr.specs.Answers.{children_of}
 
 -- `at` words are passed, and `due` subtrees are still to come
 pub record Going (ws : List ℕ) (due at : ℕ) : Type 0 where
@@ -68,6 +67,11 @@ module _ (ws : List ℕ) (b : Bool) (e : b ≡ word_count_ok (length ws)) where
         few = omega arith;
       }
 
+few_children : (a : Arity) → children_of a ≤ 2
+few_children Zero = omega arith
+few_children One = omega arith
+few_children Two = omega arith
+
 -- ---- in the loop
 
 module _ (ws : List ℕ) (due at : ℕ) (g : Going ws due at) where
@@ -83,33 +87,42 @@ module _ (ws : List ℕ) (due at : ℕ) (g : Going ws due at) where
     pub words_ended : length ws ≤ at → refused (refusal 6) ≡ span_of ws
     words_ended h = stops (ap (λ (l : List ℕ). due_words l (suc (due - 1))) (drop_of_length-le ws h) ∙ due_ended (due - 1))
 
-    module _ (h : at < length ws) (a : Arity) (e : arity_outcome a ≡ arity_of (get_or ws at 0)) where
+    module _ (h : at < length ws) where
       two_words : at + 2 ≤ length ws
       two_words = omega (arith, whole_nodes (length ws) g.counted, g.even)
 
-      pub kind_refused : (r : Refusal) → a ≡ Refused r → refused (reason_of r) ≡ span_of ws
-      kind_refused r f =
+      pub kind_refused : (r : Reason) → refused r ≡ arity_of (get_or ws at 0) → refused r ≡ span_of ws
+      kind_refused r e =
           stops (ap (λ (l : List ℕ). due_words l (suc (due - 1))) (split_at ws at two_words)
-          ∙ due_refused (get_or ws at 0) (get_or ws (suc at) 0) (drop (at + 2) ws) (due - 1) (sym e ∙ ap arity_outcome f))
+          ∙ due_refused (get_or ws at 0) (get_or ws (suc at) 0) (drop (at + 2) ws) (due - 1) (sym e))
 
-      going_on : (n d : ℕ) → accepted n ≡ arity_outcome a → d + 1 ≡ due + n → n ≤ 2 → Going ws d (at + 2)
+      going_on : (n d : ℕ) → accepted n ≡ arity_of (get_or ws at 0) → d + 1 ≡ due + n → n ≤ 2 → Going ws d (at + 2)
       going_on n d f s l = record {
         counted = g.counted;
         span_is =
             g.span_is
             ∙ ap (λ (i : ℕ). mapped (λ m. at + m) (due_words (drop at ws) i)) (let s : due ≡ suc (due - 1) = omega arith in s)
             ∙ ap (λ (v : List ℕ). mapped (λ m. at + m) (due_words v (suc (due - 1)))) (split_at ws at two_words)
-            ∙ ap (mapped (λ m. at + m)) (due_node (get_or ws at 0) (get_or ws (suc at) 0) (drop (at + 2) ws) (due - 1) (sym e ∙ sym f) d (omega arith))
+            ∙ ap (mapped (λ m. at + m)) (due_node (get_or ws at 0) (get_or ws (suc at) 0) (drop (at + 2) ws) (due - 1) (sym f) d (omega arith))
             ∙ mapped_mapped _ _ _ (λ m. omega arith) (due_words (drop (at + 2) ws) d);
         even = omega (arith, g.even);
         few = omega (arith, g.few);
       }
 
-      pub going_zero : a ≡ Zero → Going ws (due - 1) (at + 2)
-      going_zero f = going_on 0 (due - 1) (ap arity_outcome (sym f)) (omega arith) (omega arith)
+      -- after the node's own place its children are due
+      module _ (a : Arity) (e : accepted (children_of a) ≡ arity_of (get_or ws at 0)) where
+        pub going_next : (n : ℕ) → n ≡ children_of a → Going ws (due + n - 1) (at + 2)
+        going_next n f = going_on n (due + n - 1) (ap accepted f ∙ e) (omega (arith, pos)) (omega (arith, f, few_children a))
 
-      pub going_one : a ≡ One → Going ws due (at + 2)
-      going_one f = going_on 1 due (ap arity_outcome (sym f)) (omega arith) (omega arith)
+module _ (ws : List ℕ) (due at : ℕ) (g : Going ws due at) (pos : 0 < due) (h : at < length ws) (a : Arity)
+    (e : accepted (children_of a) ≡ arity_of (get_or ws at 0)) (n : ℕ) (f : n ≡ children_of a) where
+  next : Going ws (due + n - 1) (at + 2)
+  next = going_next ws due at g pos h a e n f
 
-      pub going_two : a ≡ Two → Going ws (due + 1) (at + 2)
-      going_two f = going_on 2 (due + 1) (ap arity_outcome (sym f)) (omega arith) (omega arith)
+  -- after the last node of the subtree
+  pub last_node : due + n - 1 ≡ 0 → accepted (at + 2) ≡ span_of ws
+  last_node z = span_done ws (due + n - 1) (at + 2) next (omega (arith, z))
+
+  -- where a node is due and no word is left
+  pub none_follows : 0 < due + n - 1 → length ws - at ≤ 2 → refused (refusal 6) ≡ span_of ws
+  none_follows z l = words_ended ws (due + n - 1) (at + 2) next z (omega (arith, l))

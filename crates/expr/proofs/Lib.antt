@@ -5,4 +5,4 @@ pub mod DueLaws
 pub mod VariableLaws
 pub mod SameLaws
 pub mod VerdictLaws
-pub mod CopyLaws
+pub mod FoldLaws

@@ -1,28 +1,20 @@
 -- The arity of a node, or its own refusal. Assumes nothing.
-use mathlib.Core.Path.{◌≡◌, refl, sym, ap, ◌∙◌}
+use mathlib.Core.Path.{◌≡◌, sym, ap, ◌∙◌}
 use mathlib.Core.Bool.{Bool, true, false, not}
 use Prim.Native.Nat.{ℕ}
 use native.Mathlib.Omega.{arith}
 use lib.Dec.{eqb}
 use borrow.Author.Tests.{eq-eqb, ne_eqb, not-true, not-false}
-use Rattle.std.specs.Prelude.{if◌then◌else◌}
+use Rattle.std.specs.Prelude.{if◌then◌else◌, Result, Ok, Err}
 use Rattle.expr.specs.declared.refusal.Reason.{Reason}
 use Rattle.expr.specs.declared.refusal.Refusal.{Refusal}
 use Rattle.expr.specs.declared.Arity.{Arity}
-use Rattle.expr.specs.declared.Arity.TheVariants.{Zero, One, Two, Refused}
 use Rattle.expr.specs.Refusals.{refusal, reason_of}
 use Rattle.expr.specs.Outcome.{Outcome, refused, accepted, mapped, ◌and_then◌}
 use Rattle.expr.specs.OutcomeLaws.{then_accepted, Made, mapped_made}
 use Rattle.expr.specs.Parse.{Kind, arity, arity_of, kinds, kind_at, operand_ok, node_kind}
 use Rattle.expr.specs.KindLaws.{arity_is}
-use Rattle.expr.specs.Answers.{arity_outcome}
-
--- an arity that is no refusal is a number
-accepts : (a : Arity) → ((r : Refusal) → a ≡ Refused r → ⊥) → (n : ℕ) × (accepted n ≡ arity_outcome a)
-accepts Zero z = (0, refl)
-accepts One z = (1, refl)
-accepts Two z = (2, refl)
-accepts (Refused r) z = absurd (z r refl)
+use Rattle.expr.specs.Answers.{children_of, arity_outcome}
 
 -- what the operand and the depth make of a known kind
 limited : (levels k o : ℕ) {κ : Kind} → kind_at k (kinds o) ≡ accepted κ
@@ -31,8 +23,8 @@ unfolding node_kind
 limited levels k o e = then_accepted e _
 
 -- from what `arity_of` and `operand_ok` answer
-module _ (levels k o : ℕ) (a : Arity) (e : arity_outcome a ≡ arity_of k) where
-  pub unknown : (r : Refusal) → a ≡ Refused r → refused (reason_of r) ≡ mapped arity (node_kind levels k o)
+module _ (levels k o : ℕ) (a : Result Arity Refusal) (e : arity_outcome a ≡ arity_of k) where
+  pub unknown : (r : Refusal) → a ≡ Err r → refused (reason_of r) ≡ mapped arity (node_kind levels k o)
   unfolding node_kind
   unknown r f =
       let g : refused (reason_of r) ≡ mapped arity (kind_at k (kinds o)) = ap arity_outcome (sym f) ∙ e ∙ arity_is o k in
@@ -42,9 +34,9 @@ module _ (levels k o : ℕ) (a : Arity) (e : arity_outcome a ≡ arity_of k) whe
       go (refused q) f h = h
       go (accepted κ) f h = absurd (let z : ◌≡◌ {A = ℕ} 0 1 = cc in omega arith)
 
-  module _ (z : (r : Refusal) → a ≡ Refused r → ⊥) (b : Bool) (f : b ≡ operand_ok k o) where
-    kind : Made arity (kind_at k (kinds o)) (accepts a z).0
-    kind = mapped_made arity (kind_at k (kinds o)) ((accepts a z).1 ∙ e ∙ arity_is o k)
+  module _ (x : Arity) (z : a ≡ Ok x) (b : Bool) (f : b ≡ operand_ok k o) where
+    kind : Made arity (kind_at k (kinds o)) (children_of x)
+    kind = mapped_made arity (kind_at k (kinds o)) (ap arity_outcome (sym z) ∙ e ∙ arity_is o k)
 
     pub operand_refused : not b ≡ true → refused (refusal 4) ≡ mapped arity (node_kind levels k o)
     operand_refused g = rw (limited levels k o kind.was, sym f ∙ not-true b g)
@@ -53,5 +45,5 @@ module _ (levels k o : ℕ) (a : Arity) (e : arity_outcome a ≡ arity_of k) whe
       pub depth_refused : levels ≡ 0 → refused (refusal 5) ≡ mapped arity (node_kind levels k o)
       depth_refused h = rw (limited levels k o kind.was, sym f ∙ not-false b g, eq-eqb levels 0 h)
 
-      pub within : (levels ≡ 0 → ⊥) → arity_outcome a ≡ mapped arity (node_kind levels k o)
-      within h = sym (accepts a z).1 ∙ rw (limited levels k o kind.was, sym f ∙ not-false b g, ne_eqb levels 0 h, kind.made)
+      pub within : (levels ≡ 0 → ⊥) → accepted (children_of x) ≡ mapped arity (node_kind levels k o)
+      within h = rw (limited levels k o kind.was, sym f ∙ not-false b g, ne_eqb levels 0 h, kind.made)

@@ -2,12 +2,17 @@
 use mathlib.Core.Path.{◌≡◌, refl, sym, ap, ap₂, ◌∙◌}
 use mathlib.Core.Bool.{Bool, true, false, not, ◌&&◌, ◌||◌, or_assoc, or-false}
 use mathlib.Core.List.{List, [], ◌∷◌, ◌++◌, append_assoc, append-nil}
-use Prim.Native.Nat.{ℕ, zero, suc, ◌+◌, ◌≤◌, ◌<◌}
+use Prim.Native.Nat.{ℕ, zero, suc, ◌+◌, ◌-◌, ◌≤◌, ◌<◌}
 use native.Mathlib.Omega.{arith}
 use lib.Dec.{eqb}
 use lib.ListN.{length, drop, get_or, drop_of_length-le}
 use borrow.Author.Tests.{eq-eqb, ne_eqb}
-use Rattle.expr.specs.Expr.{Constant, Variable, Not, Neg, Shr, ZExt, SExt, Trunc, Add, Mul, And, Or, Xor, Concat, Unary, Binary, unary_number, binary_number, Expr, leaf, unary, binary, encode}
+use Rattle.expr.specs.Expr.{unary_number, binary_number, Expr, leaf, unary, binary, encode}
+use Rattle.expr.specs.declared.kind.Leaf.TheVariants.{Constant, Variable}
+use Rattle.expr.specs.declared.kind.Unary.{Unary}
+use Rattle.expr.specs.declared.kind.Unary.TheVariants.{Not, Neg, Shr, ZExt, SExt, Trunc}
+use Rattle.expr.specs.declared.kind.Binary.{Binary}
+use Rattle.expr.specs.declared.kind.Binary.TheVariants.{Add, Mul, And, Or, Xor, Concat}
 use Rattle.expr.specs.ExprUtils.{is_constant_subtree, has_var_dep_of}
 
 -- one of the kind words, at the even places, is that of a Variable
@@ -87,3 +92,9 @@ module _ (ws : List ℕ) (i : ℕ) (g : Looking ws i) where
 
     pub looking_on : (get_or ws i 0 ≡ 1 → ⊥) → Looking ws (i + 2)
     looking_on f = record { later = g.later ∙ turn ws i h ∙ ap (λ (b : Bool). b || any_variable (drop (i + 2) ws)) (ne_eqb (get_or ws i 0) 1 f) }
+
+    -- at the last node
+    pub variable_last : length ws - i ≤ 2 → (get_or ws i 0 ≡ 1 → ⊥) → (t : Expr) → ws ≡ encode t → false ≡ has_var_dep_of t
+    variable_last l f t e =
+        let last : Looking ws (i + 2) = looking_on f in
+        sym (sym (any_tree t) ∙ ap any_variable (sym e) ∙ last.later ∙ ap any_variable (drop_of_length-le ws (let z : length ws ≤ i + 2 = omega arith in z)))

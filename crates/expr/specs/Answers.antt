@@ -1,27 +1,22 @@
--- What each answer of a call stands for: a refusal by its number and values, or the answer. Definitions only.
-use Rattle.std.specs.Prelude.{Bool, ℕ}
+-- What an answer of a call stands for: a refusal by its number and values, or the answer. Definitions only.
+use Rattle.std.specs.Prelude.{ℕ, Result, Ok, Err}
 use Rattle.expr.specs.Refusals.{reason_of}
-use Rattle.expr.specs.Outcome.{Outcome, refused, accepted}
+use Rattle.expr.specs.Outcome.{Outcome, refused, accepted, mapped}
+use Rattle.expr.specs.declared.refusal.Refusal.{Refusal}
 use Rattle.expr.specs.declared.Arity.{Arity}
-use Rattle.expr.specs.declared.Arity.TheVariants as arity
-use Rattle.expr.specs.declared.Counted.{Counted}
-use Rattle.expr.specs.declared.Counted.TheVariants as counted
-use Rattle.expr.specs.declared.Verdict.{Verdict}
-use Rattle.expr.specs.declared.Verdict.TheVariants as verdict
+use Rattle.expr.specs.declared.Arity.TheVariants.{Zero, One, Two}
+
+-- any answer
+abbrev pub outcome : {A : Type 0} → Result A Refusal → Outcome A
+outcome (Ok a) = accepted a
+outcome (Err r) = refused (reason_of r)
 
 -- a number of children
-abbrev pub arity_outcome : Arity → Outcome ℕ
-arity_outcome arity.Zero = accepted 0
-arity_outcome arity.One = accepted 1
-arity_outcome arity.Two = accepted 2
-arity_outcome (arity.Refused r) = refused (reason_of r)
+abbrev pub children_of : Arity → ℕ
+children_of Zero = 0
+children_of One = 1
+children_of Two = 2
 
--- a number of nodes or words
-abbrev pub counted_outcome : Counted → Outcome ℕ
-counted_outcome (counted.Count n) = accepted n
-counted_outcome (counted.Refused r) = refused (reason_of r)
-
--- a yes or no
-abbrev pub verdict_outcome : Verdict → Outcome Bool
-verdict_outcome (verdict.Known b) = accepted b
-verdict_outcome (verdict.Refused r) = refused (reason_of r)
+-- the same where it may be refused
+abbrev pub arity_outcome : Result Arity Refusal → Outcome ℕ
+arity_outcome r = mapped children_of (outcome r)

@@ -1,18 +1,12 @@
 -- expr.rs: `Kind` and `Expr`; the words of a tree, its nodes and its depth. Definitions only.
 use Rattle.std.specs.Prelude.{List, [], ◌∷◌, ◌++◌, ℕ, ◌+◌, max}
-
--- the kinds without children; as in the Rust, a kind that carries a number holds it
-pub data Leaf : Type 0 where
-  Constant Variable : ℕ → Leaf
-
--- the kinds with one child; Shr holds the shift, the others the width
-pub data Unary : Type 0 where
-  Not Neg : Unary
-  Shr ZExt SExt Trunc : ℕ → Unary
-
--- the kinds with two children
-pub data Binary : Type 0 where
-  Add Mul And Or Xor Concat : Binary
+-- the kinds by their number of children are the enums of `kind`; a kind that carries a number holds it
+use Rattle.expr.specs.declared.kind.Leaf.{Leaf}
+use Rattle.expr.specs.declared.kind.Leaf.TheVariants.{Constant, Variable}
+use Rattle.expr.specs.declared.kind.Unary.{Unary}
+use Rattle.expr.specs.declared.kind.Unary.TheVariants.{Not, Neg, Shr, ZExt, SExt, Trunc}
+use Rattle.expr.specs.declared.kind.Binary.{Binary}
+use Rattle.expr.specs.declared.kind.Binary.TheVariants.{Add, Mul, And, Or, Xor, Concat}
 
 -- a tree: each node has as many children as its kind
 pub data Expr : Type 0 where

@@ -1,6 +1,7 @@
 -- expr_utils.rs: the variables of a tree. Definitions only.
 use Rattle.std.specs.Prelude.{Bool, true, false, ◌&&◌, ◌||◌}
-use Rattle.expr.specs.Expr.{Constant, Variable, Expr, leaf, unary, binary}
+use Rattle.expr.specs.Expr.{Expr, leaf, unary, binary}
+use Rattle.expr.specs.declared.kind.Leaf.TheVariants.{Constant, Variable}
 
 -- the tree has no Variable
 unfoldable pub is_constant_subtree : Expr → Bool

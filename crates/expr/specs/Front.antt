@@ -2,7 +2,8 @@
 -- it; no public promise names it. Definitions only.
 use Rattle.std.specs.Prelude.{◌≡◌, List, ◌++◌, ℕ, T, length}
 use Rattle.expr.specs.Outcome.{Outcome, refused, accepted}
-use Rattle.expr.specs.Expr.{Constant, Expr, leaf, unary, binary, encode}
+use Rattle.expr.specs.Expr.{Expr, leaf, unary, binary, encode}
+use Rattle.expr.specs.declared.kind.Leaf.TheVariants.{Constant}
 use Rattle.expr.specs.Parse.{operands_ok, subtree}
 
 -- the words begin with those of the tree, whose operands are in range
@@ -24,10 +25,6 @@ pub record Spans (ws : List ℕ) (n : ℕ) : Type 0 where
 pub record Read (ws : List ℕ) (n : ℕ) (P : Expr → Type 0) : Type 0 where
   pub spans : Spans ws n
   pub holds : (t : Expr) → Front ws t → P t
-
--- f gives y for the tree
-pub record Gives {A : Type 0} (f : Expr → A) (y : A) (t : Expr) : Type 0 where
-  pub is : y ≡ f t
 
 -- ---- the tree, by its words
 

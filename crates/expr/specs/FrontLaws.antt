@@ -1,5 +1,6 @@
 -- The node at the front of a tree's words, and the parts where its children begin. Assumes nothing.
-use Rattle.std.specs.Prelude.{◌≡◌, refl, ℕ, ◌+◌, ◌*◌, ◌^◌, ◌≤◌, ◌<◌, T, drop}
+use Rattle.std.specs.Prelude.{◌≡◌, refl, Bool, true, false, ℕ, ◌+◌, ◌*◌, ◌/◌, ◌^◌, ◌≤◌, ◌<◌, T, drop, Result, Ok, Err}
+use Rattle.std.specs.Result.{IsOk}
 use Rattle.std.proofs.Common.{sym, subst, ◌∙◌, Fits}
 use Rattle.std.proofs.Math.Path.{ap}
 use mathlib.Core.List.{List, [], ◌∷◌, ◌++◌, append_assoc, append-nil}
@@ -8,21 +9,23 @@ use Rattle.std.proofs.Math.ListN.{length, get_or, length-append}
 use Rattle.std.proofs.Math.Seq.{drop_at}
 use Rattle.std.proofs.Math.Facts.{and_yes}
 use Rattle.std.specs.Int.{w64}
+use Rattle.expr.specs.declared.refusal.Reason.{Reason}
 use Rattle.expr.specs.declared.refusal.Refusal.{Refusal}
 use Rattle.expr.specs.declared.Arity.{Arity}
-use Rattle.expr.specs.declared.Arity.TheVariants.{Zero, One, Two, Refused}
-use Rattle.expr.specs.declared.Counted.{Counted}
-use Rattle.expr.specs.declared.Counted.TheVariants as counted
-use Rattle.expr.specs.Refusals.{reason_of}
+use Rattle.expr.specs.declared.Arity.TheVariants.{Zero, One, Two}
 use Rattle.expr.specs.Outcome.{Outcome, refused, accepted, mapped, ◌and_then◌}
-use Rattle.expr.specs.OutcomeLaws.{mapped_accepted, Made, mapped_made, refused_mapped, refused_then}
-use Rattle.expr.specs.Expr.{Leaf, Unary, Binary, Expr, leaf, unary, binary, leaf_number, leaf_operand, unary_number, unary_operand, binary_number, encode, nodes}
+use Rattle.expr.specs.OutcomeLaws.{then_accepted, mapped_accepted, Made, mapped_made, refused_mapped}
+use Rattle.expr.specs.Expr.{Expr, leaf, unary, binary, leaf_number, leaf_operand, unary_number, unary_operand, binary_number, encode, nodes}
+use Rattle.expr.specs.declared.kind.Leaf.{Leaf}
+use Rattle.expr.specs.declared.kind.Unary.{Unary}
+use Rattle.expr.specs.declared.kind.Binary.{Binary}
 use Rattle.expr.specs.ExprLaws.{nodes_pos, length_encode}
 use Rattle.expr.specs.Parse.{Kind, none, one, two, arity, arity_of, operand_ok, operands_ok, parse}
 use Rattle.expr.specs.ParseLaws.{parse_sound}
 use Rattle.expr.specs.KindLaws.{number, number_arity}
-use Rattle.expr.specs.Answers.{arity_outcome, counted_outcome}
-use Rattle.expr.specs.Front.{Front, Starts, Spans, Read, Gives}
+use Rattle.expr.specs.Answers.{children_of, arity_outcome}
+use Rattle.expr.specs.Trees.{is_accepted, Checked}
+use Rattle.expr.specs.Front.{Front, Starts, Spans, Read}
 use Rattle.expr.specs.Parts.{tail}
 use Rattle.expr.specs.TailLaws.{tail_drop, length_tail}
 
@@ -80,6 +83,7 @@ pub record LeafNode (ws : List ℕ) (t : Expr) : Type 0 where
   pub is : t ≡ leaf kind
   pub number_is : get_or ws 0 0 ≡ leaf_number kind
   pub operand_is : get_or ws 1 0 ≡ leaf_operand kind
+  pub in_range : T (operand_ok (leaf_number kind) (leaf_operand kind))
 
 -- a node over one child, whose words begin after the node's
 pub record UnaryNode (ws : List ℕ) (t : Expr) : Type 0 where
@@ -102,29 +106,32 @@ pub record BinaryNode (ws : List ℕ) (t : Expr) : Type 0 where
   pub right_below : Front (tail (length (encode left)) (tail 2 ws)) right
 
 -- what the first word says of the number of children holds of the tree
-module _ (ws : List ℕ) (a : Arity) (e : arity_outcome a ≡ arity_of (get_or ws 0 0)) where
-  told : (t : Expr) → Front ws t → arity_outcome a ≡ accepted (arity (root_of t))
-  told t f = e ∙ ap arity_of (first_word ws t f) ∙ number_arity (root_of t)
+module _ (ws : List ℕ) (a : Arity) (e : accepted (children_of a) ≡ arity_of (get_or ws 0 0)) where
+  told : (t : Expr) → Front ws t → (b : Arity) → a ≡ b → children_of b ≡ arity (root_of t)
+  told t f b g =
+      let z : ◌≡◌ {A = Outcome ℕ} (accepted (children_of b)) (accepted (arity (root_of t))) =
+      ap (λ (c : Arity). accepted (children_of c)) (sym g) ∙ e ∙ ap arity_of (first_word ws t f) ∙ number_arity (root_of t) in
+      cc
 
   -- no tree of another kind is at the front
-  module _ {A : Type 0} (t : Expr) (f : Front ws t) where
-    apart : (n : ℕ) → arity_outcome a ≡ accepted n → (n ≡ arity (root_of t) → ⊥) → A
-    apart n g h = absurd (h (let z = told t f in cc))
+  apart : {A : Type 0} (t : Expr) → Front ws t → (b : Arity) → a ≡ b → (children_of b ≡ arity (root_of t) → ⊥) → A
+  apart t f b g h = absurd (h (told t f b g))
 
   pub leaf_node : (t : Expr) → a ≡ Zero → Front ws t → LeafNode ws t
-  unfolding encode
+  unfolding encode operands_ok
   leaf_node (leaf k) g f = record {
     kind = k;
     is = refl;
     number_is = first_word ws (leaf k) f;
     operand_is = ap (λ (l : List ℕ). get_or l 1 0) f.words;
+    in_range = f.operands;
   }
-  leaf_node (unary k t) g f = apart (unary k t) f 0 (ap arity_outcome g) (λ z. omega arith)
-  leaf_node (binary k l r) g f = apart (binary k l r) f 0 (ap arity_outcome g) (λ z. omega arith)
+  leaf_node (unary k t) g f = apart (unary k t) f Zero g (λ z. omega arith)
+  leaf_node (binary k l r) g f = apart (binary k l r) f Zero g (λ z. omega arith)
 
   pub unary_node : (t : Expr) → a ≡ One → Front ws t → UnaryNode ws t
   unfolding encode operands_ok
-  unary_node (leaf k) g f = apart (leaf k) f 1 (ap arity_outcome g) (λ z. omega arith)
+  unary_node (leaf k) g f = apart (leaf k) f One g (λ z. omega arith)
   unary_node (unary k t) g f = record {
     kind = k;
     child = t;
@@ -134,11 +141,11 @@ module _ (ws : List ℕ) (a : Arity) (e : arity_outcome a ≡ arity_of (get_or w
     in_range = (and_yes (operand_ok (unary_number k) (unary_operand k)) (operands_ok t) f.operands).0;
     below = unary_below ws k t f;
   }
-  unary_node (binary k l r) g f = apart (binary k l r) f 1 (ap arity_outcome g) (λ z. omega arith)
+  unary_node (binary k l r) g f = apart (binary k l r) f One g (λ z. omega arith)
 
   pub binary_node : (t : Expr) → a ≡ Two → Front ws t → BinaryNode ws t
-  binary_node (leaf k) g f = apart (leaf k) f 2 (ap arity_outcome g) (λ z. omega arith)
-  binary_node (unary k t) g f = apart (unary k t) f 2 (ap arity_outcome g) (λ z. omega arith)
+  binary_node (leaf k) g f = apart (leaf k) f Two g (λ z. omega arith)
+  binary_node (unary k t) g f = apart (unary k t) f Two g (λ z. omega arith)
   binary_node (binary k l r) g f = record {
     kind = k;
     left = l;
@@ -157,7 +164,7 @@ module _ (ws : List ℕ) (a : Arity) (e : arity_outcome a ≡ arity_of (get_or w
 
 -- ---- the calls of a walk
 
-front_length : (ws : List ℕ) (t : Expr) → Front ws t → length (encode t) ≤ length ws
+pub front_length : (ws : List ℕ) (t : Expr) → Front ws t → length (encode t) ≤ length ws
 front_length ws t f = omega (arith, ap length f.words, length-append (encode t) f.rest)
 
 module _ (ws : List ℕ) (s : Starts ws) where
@@ -177,7 +184,7 @@ module _ (ws : List ℕ) (s : Starts ws) where
   pub right_falls : (n m : ℕ) → length ws ≡ m → length (tail n (tail 2 ws)) < m
   right_falls n m e = omega (arith, has_node, length_tail n (tail 2 ws), length_tail 2 ws)
 
-  module _ (a : Arity) (e : arity_outcome a ≡ arity_of (get_or ws 0 0)) where
+  module _ (a : Arity) (e : accepted (children_of a) ≡ arity_of (get_or ws 0 0)) where
     pub child_starts : a ≡ One → Starts (tail 2 ws)
     child_starts g = let n = unary_node ws a e s.tree g s.front in record { tree = n.child; front = n.below }
 
@@ -197,7 +204,7 @@ module _ (ws : List ℕ) (s : Starts ws) where
 
 -- ---- how many words the tree takes
 
-module _ (ws : List ℕ) (a : Arity) (e : arity_outcome a ≡ arity_of (get_or ws 0 0)) where
+module _ (ws : List ℕ) (a : Arity) (e : accepted (children_of a) ≡ arity_of (get_or ws 0 0)) where
   pub leaf_spans : a ≡ Zero → Spans ws 2
   unfolding encode
   leaf_spans g = record { spans = λ t f. ap (λ (u : Expr). length (encode u)) (sym (leaf_node ws a e t g f).is) }
@@ -231,7 +238,7 @@ module _ (ws : List ℕ) (s : Starts ws) (h : length ws < 2 ^ 64) where
   taken : (n : ℕ) → Spans ws n → n ≤ length ws
   taken n p = omega (arith, p.spans s.tree s.front, front_length ws s.tree s.front)
 
-  module _ (a : Arity) (e : arity_outcome a ≡ arity_of (get_or ws 0 0)) (n : ℕ) (l : Spans (tail 2 ws) n) where
+  module _ (a : Arity) (e : accepted (children_of a) ≡ arity_of (get_or ws 0 0)) (n : ℕ) (l : Spans (tail 2 ws) n) where
     pub unary_fits : a ≡ One → Fits w64 (n + 2)
     unary_fits g = omega (arith, taken (n + 2) (unary_spans ws a e n l g))
 
@@ -242,20 +249,28 @@ module _ (ws : List ℕ) (s : Starts ws) (h : length ws < 2 ^ 64) where
       pub binary_fits : Fits w64 (n + m + 2)
       binary_fits = omega (arith, taken (n + m + 2) (binary_spans ws a e n l m r g))
 
-pub right_scaled : (ws : List ℕ) (s : Starts ws) (a : Arity) → arity_outcome a ≡ arity_of (get_or ws 0 0) → a ≡ Two
+pub right_scaled : (ws : List ℕ) (s : Starts ws) (a : Arity) → accepted (children_of a) ≡ arity_of (get_or ws 0 0) → a ≡ Two
     → (n : ℕ) → Spans (tail 2 ws) n → length ws * 8 < 2 ^ 63 → Fits w64 (n * 8)
 right_scaled ws s a e g n l h = omega (arith, left_within ws s a e g n l, length_tail 2 ws)
 
--- a tree's first word is the number of a kind, so a walk does not come to the arm of a refused one
-pub no_kind : (ws : List ℕ) (a : Arity) → arity_outcome a ≡ arity_of (get_or ws 0 0) → Starts ws → (r : Refusal) → a ≡ Refused r → (n : ℕ) (P : Expr → Type 0) → Read ws n P
-no_kind ws a e s r g n P = absurd (let z = told ws a e s.tree s.front in let h = ap arity_outcome g in let y : ◌≡◌ {A = ℕ} 0 1 = cc in omega arith)
+-- a tree's first word is the number of a kind, whose arity is known
+module _ (ws : List ℕ) (x : Result Arity Refusal) (e : arity_outcome x ≡ arity_of (get_or ws 0 0)) where
+  pub has_arity : Starts ws → IsOk x
+  has_arity s = go x (e ∙ ap arity_of (first_word ws s.tree s.front) ∙ number_arity (root_of s.tree))
+    where
+      go : (y : Result Arity Refusal) → arity_outcome y ≡ accepted (arity (root_of s.tree)) → IsOk y
+      go (Ok a) h = refl
+      go (Err r) h = absurd (let z : ◌≡◌ {A = ℕ} 0 1 = cc in omega arith)
+
+  pub known_arity : (a : Arity) → x ≡ Ok a → accepted (children_of a) ≡ arity_of (get_or ws 0 0)
+  known_arity a f = ap arity_outcome (sym f) ∙ e
 
 -- what every need of a call on a child's part is found by
-pub ruleset walk = (has_node, has_kind, has_operand, child_falls, right_falls, child_starts, left_starts, right_starts, left_within, leaf_spans, unary_spans, binary_spans, unary_fits, both_fit, binary_fits, right_scaled, no_kind)
+pub ruleset walk = (has_node, has_kind, has_operand, child_falls, right_falls, child_starts, left_starts, right_starts, left_within, leaf_spans, unary_spans, binary_spans, unary_fits, both_fit, binary_fits, right_scaled, has_arity, known_arity)
 
 -- ---- what holds of a node, from what the calls have found of its children
 
-module _ (ws : List ℕ) (a : Arity) (e : arity_outcome a ≡ arity_of (get_or ws 0 0)) (t : Expr) (f : Front ws t) where
+module _ (ws : List ℕ) (a : Arity) (e : accepted (children_of a) ≡ arity_of (get_or ws 0 0)) (t : Expr) (f : Front ws t) where
   module _ (P : Expr → Type 0) where
     pub leaf_holds : a ≡ Zero → ((k : Leaf) → get_or ws 0 0 ≡ leaf_number k → get_or ws 1 0 ≡ leaf_operand k → P (leaf k)) → P t
     leaf_holds g h = let n = leaf_node ws a e t g f in subst P (sym n.is) (h n.kind n.number_is n.operand_is)
@@ -273,19 +288,6 @@ module _ (ws : List ℕ) (a : Arity) (e : arity_outcome a ≡ arity_of (get_or w
         subst P (sym n.is)
         (h n.kind n.left n.right n.number_is (q.holds n.left n.left_below) (r.holds n.right (right_front ws a e l q.spans g t f)))
 
-  -- the same, where it is an equation
-  module _ {A : Type 0} (d : Expr → A) (y : A) where
-    pub leaf_gives : a ≡ Zero → ((k : Leaf) → get_or ws 0 0 ≡ leaf_number k → get_or ws 1 0 ≡ leaf_operand k → y ≡ d (leaf k)) → Gives d y t
-    leaf_gives g h = leaf_holds (Gives d y) g (λ k i j. record { is = h k i j })
-
-    pub unary_gives : (m : ℕ) (x : A) → a ≡ One → Read (tail 2 ws) m (Gives d x)
-        → ((k : Unary) (u : Expr) → get_or ws 0 0 ≡ unary_number k → get_or ws 1 0 ≡ unary_operand k → x ≡ d u → y ≡ d (unary k u)) → Gives d y t
-    unary_gives m x g q h = unary_holds (Gives d y) (Gives d x) m g q (λ k u i j b. record { is = h k u i j b.is })
-
-    pub binary_gives : (l m : ℕ) (x z : A) → a ≡ Two → Read (tail 2 ws) l (Gives d x) → Read (tail l (tail 2 ws)) m (Gives d z)
-        → ((k : Binary) (u v : Expr) → get_or ws 0 0 ≡ binary_number k → x ≡ d u → z ≡ d v → y ≡ d (binary k u v)) → Gives d y t
-    binary_gives l m x z g q r h = binary_holds (Gives d y) (Gives d x) (Gives d z) l m g q r (λ k u v i b c. record { is = h k u v i b.is c.is })
-
 -- ---- a whole list of words, once it is checked
 
 pub parse_front : (ws : List ℕ) (t : Expr) → parse ws ≡ accepted t → Front ws t
@@ -298,24 +300,49 @@ pub record IsTree (ws : List ℕ) : Type 0 where
   pub tree : Expr
   pub is : parse ws ≡ accepted tree
 
-module _ (ws : List ℕ) (x : Counted) (n : ℕ) (e : counted_outcome x ≡ mapped nodes (parse ws)) (g : x ≡ counted.Count n) where
-  pub is_tree : IsTree ws
-  is_tree = let m : Made nodes (parse ws) n = mapped_made nodes (parse ws) (ap counted_outcome (sym g) ∙ e) in record { tree = m.answer; is = m.was }
+pub is_tree : (ws : List ℕ) (n : ℕ) → accepted n ≡ mapped nodes (parse ws) → IsTree ws
+is_tree ws n e = let m : Made nodes (parse ws) n = mapped_made nodes (parse ws) e in record { tree = m.answer; is = m.was }
 
+pub checked_is_tree : (ws : List ℕ) → Checked ws → IsTree ws
+checked_is_tree ws e = go (parse ws) refl e
+  where
+    go : (o : Outcome Expr) → parse ws ≡ o → is_accepted o ≡ true → IsTree ws
+    go (refused r) f g = absurd (let z : ◌≡◌ {A = Bool} false true = g in cc)
+    go (accepted t) f g = record { tree = t; is = f }
+
+module _ (ws : List ℕ) (t : IsTree ws) where
   pub tree_starts : Starts ws
-  tree_starts = record { tree = is_tree.tree; front = parse_front ws is_tree.tree is_tree.is }
+  tree_starts = record { tree = t.tree; front = parse_front ws t.tree t.is }
 
   pub tree_short : length ws ≤ 1024
-  tree_short = let a = parse_sound ws is_tree.tree is_tree.is in omega (arith, ap length a.words, length_encode is_tree.tree, a.valid.count)
+  tree_short = let a = parse_sound ws t.tree t.is in omega (arith, ap length a.words, length_encode t.tree, a.valid.count)
 
-  -- what a walk has answered of the tree at the front is the answer for the words
-  pub answered : {A : Type 0} (f : Expr → A) (m : ℕ) (y : A) → Read ws m (Gives f y) → accepted y ≡ mapped f (parse ws)
-  answered f m y h = ap accepted (h.holds is_tree.tree (parse_front ws is_tree.tree is_tree.is)).is ∙ sym (mapped_accepted is_tree.is f)
+  pub tree_words : accepted ws ≡ mapped encode (parse ws)
+  tree_words = ap accepted (parse_sound ws t.tree t.is).words ∙ sym (mapped_accepted t.is encode)
+
+  pub tree_nodes : accepted (length ws / 2) ≡ mapped nodes (parse ws)
+  tree_nodes =
+      let a = parse_sound ws t.tree t.is in
+      ap accepted (let e : length ws / 2 ≡ nodes t.tree = omega (arith, ap length a.words, length_encode t.tree) in e) ∙ sym (mapped_accepted t.is nodes)
 
 -- a refusal is handed on
-module _ {A : Type 0} (o : Outcome Expr) (x : Counted) (r : Refusal) (e : counted_outcome x ≡ mapped nodes o) (g : x ≡ counted.Refused r) where
-  pub turned_down : (f : Expr → A) → refused (reason_of r) ≡ mapped f o
-  turned_down f = refused_mapped nodes f o (ap counted_outcome (sym g) ∙ e)
+pub turned_down : {A : Type 0} (o : Outcome Expr) (r : Reason) → refused r ≡ mapped nodes o → (f : Expr → A) → refused r ≡ mapped f o
+turned_down o r e f = refused_mapped nodes f o e
 
-  pub then_turned_down : (f : Expr → Outcome A) → refused (reason_of r) ≡ (o and_then f)
-  then_turned_down f = refused_then nodes f o (ap counted_outcome (sym g) ∙ e)
+-- ---- what was found of a tree that was read is the answer for the words
+
+module _ (ws vs : List ℕ) (e : accepted vs ≡ mapped encode (parse ws)) where
+  pub read_made : Made encode (parse ws) vs
+  read_made = mapped_made encode (parse ws) e
+
+  pub same_tree : parse vs ≡ accepted read_made.answer
+  same_tree =
+      let m = read_made in
+      let s : vs ≡ ws = sym m.made ∙ sym (parse_sound ws m.answer m.was).words in
+      ap parse s ∙ m.was
+
+  pub folded : {A : Type 0} (f : Expr → A) (y : A) → ((t : Expr) → parse vs ≡ accepted t → y ≡ f t) → accepted y ≡ mapped f (parse ws)
+  folded f y h = ap accepted (h read_made.answer same_tree) ∙ sym (mapped_accepted read_made.was f)
+
+  pub then_folded : {A : Type 0} (f : Expr → Outcome A) (o : Outcome A) → ((t : Expr) → parse vs ≡ accepted t → o ≡ f t) → o ≡ (parse ws and_then f)
+  then_folded f o h = h read_made.answer same_tree ∙ sym (then_accepted read_made.was f)

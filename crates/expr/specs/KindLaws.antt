@@ -4,7 +4,12 @@ use Rattle.std.proofs.Common.{ap, ◌∙◌, subst, arith, eqb→eq, leb→le, l
 use Rattle.expr.specs.declared.refusal.Reason.{Reason}
 use Rattle.expr.specs.Refusals.{refusal}
 use Rattle.expr.specs.Outcome.{Outcome, refused, accepted, mapped}
-use Rattle.expr.specs.Expr.{Constant, Variable, Unary, Not, Neg, Shr, ZExt, SExt, Trunc, Binary, Add, Mul, And, Or, Xor, Concat, leaf_number, leaf_operand, unary_number, unary_operand, binary_number}
+use Rattle.expr.specs.Expr.{leaf_number, leaf_operand, unary_number, unary_operand, binary_number}
+use Rattle.expr.specs.declared.kind.Leaf.TheVariants.{Constant, Variable}
+use Rattle.expr.specs.declared.kind.Unary.{Unary}
+use Rattle.expr.specs.declared.kind.Unary.TheVariants.{Not, Neg, Shr, ZExt, SExt, Trunc}
+use Rattle.expr.specs.declared.kind.Binary.{Binary}
+use Rattle.expr.specs.declared.kind.Binary.TheVariants.{Add, Mul, And, Or, Xor, Concat}
 use Rattle.expr.specs.Parse.{Kind, none, one, two, arity, arity_of, kinds, kind_at, operand_ok}
 
 -- the kind word and the operand word

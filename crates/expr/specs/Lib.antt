@@ -5,6 +5,7 @@ pub mod ExprUtils
 pub mod Parse
 pub mod Span
 pub mod Parts
+pub mod Trees
 pub mod Front
 pub mod Lent
 pub mod SameWords

@@ -8,7 +8,9 @@ use Rattle.std.proofs.lemmas.Bool.{eqb-false}
 use Rattle.arith.specs.ChoiceLaws.{if_yes, if_no}
 use Rattle.expr.specs.Refusals.{refusal}
 use Rattle.expr.specs.Outcome.{Outcome, refused, accepted, ◌and_then◌}
-use Rattle.expr.specs.Expr.{Expr, leaf, unary, binary, Binary, Add, Mul, And, Or, Xor, Concat, unary_number, unary_operand, binary_number, encode, nodes, depth}
+use Rattle.expr.specs.Expr.{Expr, leaf, unary, binary, unary_number, unary_operand, binary_number, encode, nodes, depth}
+use Rattle.expr.specs.declared.kind.Binary.{Binary}
+use Rattle.expr.specs.declared.kind.Binary.TheVariants.{Add, Mul, And, Or, Xor, Concat}
 use Rattle.expr.specs.Parse.{Kind, none, one, two, kinds, kind_at, operand_ok, node_kind, children, node, subtree, word_count_ok, whole, parse, operands_ok, Valid, Accepts}
 use Rattle.expr.specs.OutcomeLaws.{then_accepted}
 use Rattle.expr.specs.KindLaws.{number, operand, kind_back, Reads, kind_reads}

@@ -8,7 +8,9 @@ use Rattle.std.proofs.Math.ListN.{length, take, drop, get_or, length-append}
 use Rattle.std.proofs.Math.Seq.{take_at, drop_at}
 use Rattle.std.proofs.Math.Facts.{and_yes}
 use Rattle.expr.specs.Outcome.{accepted}
-use Rattle.expr.specs.Expr.{Unary, Binary, Expr, leaf, unary, binary, unary_number, unary_operand, binary_number, encode, nodes, depth}
+use Rattle.expr.specs.Expr.{Expr, leaf, unary, binary, unary_number, unary_operand, binary_number, encode, nodes, depth}
+use Rattle.expr.specs.declared.kind.Unary.{Unary}
+use Rattle.expr.specs.declared.kind.Binary.{Binary}
 use Rattle.expr.specs.ExprLaws.{nodes_pos, depth_nodes, length_encode}
 use Rattle.expr.specs.Parse.{Kind, none, one, two, arity, arity_of, operand_ok, operands_ok, subtree}
 use Rattle.expr.specs.ParseLaws.{subtree_encode}

@@ -5,15 +5,11 @@ use Rattle.std.proofs.Common.{sym, subst, ◌∙◌, ⊎_elim, append_assoc, ari
 use Rattle.std.proofs.Math.Path.{ap}
 use Rattle.arith.specs.ChoiceLaws.{if_yes}
 use Rattle.expr.specs.declared.refusal.Reason.{Reason}
-use Rattle.expr.specs.declared.refusal.Refusal.{Refusal}
-use Rattle.expr.specs.declared.Counted.{Counted}
-use Rattle.expr.specs.declared.Counted.TheVariants.{Count, Refused}
 use Rattle.expr.specs.Refusals.{refusal}
 use Rattle.expr.specs.Outcome.{Outcome, refused, accepted, mapped, ◌and_then◌}
 use Rattle.expr.specs.Expr.{Expr, leaf, unary, binary, encode, nodes}
 use Rattle.expr.specs.Parse.{Kind, none, one, two, arity, arity_of, kinds, kind_at, operand_ok, node_kind, children, node, subtree, whole, word_count_ok, parse}
 use Rattle.expr.specs.Span.{due_words, span_of}
-use Rattle.expr.specs.Answers.{counted_outcome}
 use Rattle.expr.specs.OutcomeLaws.{then_accepted, then_refused, mapped_mapped, mapped_same}
 use Rattle.expr.specs.KindLaws.{number, operand, number_arity, arity_is}
 use Rattle.expr.specs.ExprLaws.{nodes_pos, length_encode}
@@ -99,17 +95,17 @@ span_encode ws t rest e h =
     ∙ ap accepted (let s : 2 * nodes t + 0 ≡ 2 * nodes t = omega arith in s)
 
 -- what `span` answers for at most 512 nodes that begin with those of a tree: the tree's words, and no refusal
-module _ (ws : List ℕ) (t : Expr) (rest : List ℕ) (e : ws ≡ encode t ++ rest) (even : length ws % 2 ≡ 0) (short : length ws ≤ 1024) (c : Counted) (h : counted_outcome c ≡ span_of ws) where
-  spanned : counted_outcome c ≡ accepted (2 * nodes t)
+module _ (ws : List ℕ) (t : Expr) (rest : List ℕ) (e : ws ≡ encode t ++ rest) (even : length ws % 2 ≡ 0) (short : length ws ≤ 1024) where
+  spanned : span_of ws ≡ accepted (2 * nodes t)
   spanned =
       let m : length ws ≡ 2 * (length ws / 2) = omega arith in
       let some : 1 ≤ length ws / 2 = omega (arith, ap length e, length-append (encode t) rest, length_encode t, nodes_pos t) in
-      h ∙ span_encode ws t rest e (subst (λ (n : ℕ). T (word_count_ok n)) (sym m) (count_yes (length ws / 2) some (omega arith)))
+      span_encode ws t rest e (subst (λ (n : ℕ). T (word_count_ok n)) (sym m) (count_yes (length ws / 2) some (omega arith)))
 
-  pub span_counted : (n : ℕ) → c ≡ Count n → n ≡ length (encode t)
+  pub span_counted : (n : ℕ) → accepted n ≡ span_of ws → n ≡ length (encode t)
   span_counted n f = let s : n ≡ 2 * nodes t = (let z = spanned in cc) in s ∙ sym (length_encode t)
 
-  pub span_not_refused : (r : Refusal) → c ≡ Refused r → ⊥
+  pub span_not_refused : (r : Reason) → refused r ≡ span_of ws → ⊥
   span_not_refused r f = let z = spanned in let y : ◌≡◌ {A = ℕ} 0 1 = cc in omega arith
 
 -- ---- refusals

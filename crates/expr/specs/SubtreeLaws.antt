@@ -4,7 +4,10 @@ use Rattle.std.proofs.Common.{sym, ap, subst, ◌∙◌, arith, length-append, l
 use mathlib.Core.List.{List, [], ◌∷◌, ◌++◌, append_assoc, append-nil}
 use Rattle.std.proofs.Math.Decide.{dec_lt}
 use Rattle.std.proofs.lemmas.List.{drop-append-le}
-use Rattle.expr.specs.Expr.{Leaf, Unary, Binary, Expr, leaf, unary, binary, encode, nodes}
+use Rattle.expr.specs.Expr.{Expr, leaf, unary, binary, encode, nodes}
+use Rattle.expr.specs.declared.kind.Leaf.{Leaf}
+use Rattle.expr.specs.declared.kind.Unary.{Unary}
+use Rattle.expr.specs.declared.kind.Binary.{Binary}
 use Rattle.expr.specs.ExprLaws.{nodes_pos, length_encode, prefix_free}
 
 infix 4 ◌IsIn◌

@@ -22,6 +22,39 @@ pub const SHR: u64 = 9;
 // ZExt, SExt and Trunc, the casts, are 10 to 12, and no kind with one child is above them.
 pub const ZEXT: u64 = 10;
 
+pub const SEXT: u64 = 11;
+
 pub const TRUNC: u64 = 12;
 
 pub const CONCAT: u64 = 13;
+
+// ---- kinds with what they hold
+
+// The kinds without children.
+#[derive(Clone, Copy, PartialEq, Eq)]
+pub enum Leaf {
+    Constant(u64),
+    Variable(u32),
+}
+
+// The kinds with one child. Shr holds the shift, the casts the width.
+#[derive(Clone, Copy, PartialEq, Eq)]
+pub enum Unary {
+    Not,
+    Neg,
+    Shr(u32),
+    ZExt(u32),
+    SExt(u32),
+    Trunc(u32),
+}
+
+// The kinds with two children.
+#[derive(Clone, Copy, PartialEq, Eq)]
+pub enum Binary {
+    Add,
+    Mul,
+    And,
+    Or,
+    Xor,
+    Concat,
+}

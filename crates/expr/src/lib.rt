@@ -10,46 +10,45 @@ ghost use Rattle.expr.specs.Parse.{arity, arity_of, operand_ok, node_kind, subtr
 ghost use Rattle.expr.specs.Span.{span_of};
 ghost use Rattle.expr.specs.SameWords.{same_words};
 ghost use Rattle.expr.specs.Lent.{over};
-ghost use Rattle.expr.specs.Answers.{arity_outcome, counted_outcome, verdict_outcome};
+ghost use Rattle.expr.specs.Answers.{outcome, children_of, arity_outcome};
 
+pub mod fold;
 pub mod kind;
 pub mod refusal;
+pub mod tree;
 
 use refusal::Refusal;
 
-// How many children a node has, or why it is refused.
-#[derive(Clone, Copy)]
+// How many children a node has.
+#[derive(Clone, Copy, PartialEq, Eq)]
 pub enum Arity {
     Zero,
     One,
     Two,
-    Refused(Refusal),
 }
 
-// A number of nodes or of words, or a refusal.
-#[derive(Clone, Copy)]
-pub enum Counted {
-    Count(usize),
-    Refused(Refusal),
-}
-
-// A yes or no about a tree, or a refusal.
-#[derive(Clone, Copy)]
-pub enum Verdict {
-    Known(bool),
-    Refused(Refusal),
+impl Arity {
+    pub fn children(self) -> usize
+        ensures { result ≡ children_of self }
+    {
+        match self {
+            Arity::Zero => 0,
+            Arity::One => 1,
+            Arity::Two => 2,
+        }
+    }
 }
 
 // The number of children of a kind word. No other function decides it.
-pub fn arity_of(kind: u64) -> Arity
+pub fn arity_of(kind: u64) -> Result<Arity, Refusal>
     ensures { arity_outcome result ≡ arity_of kind }
 {
     match kind {
-        0..=1 => Arity::Zero,
-        2..=6 => Arity::Two,
-        7..=12 => Arity::One,
-        13 => Arity::Two,
-        _ => Arity::Refused(Refusal::UnknownKind),
+        0..=1 => Ok(Arity::Zero),
+        2..=6 => Ok(Arity::Two),
+        7..=12 => Ok(Arity::One),
+        13 => Ok(Arity::Two),
+        _ => Err(Refusal::UnknownKind),
     }
 }
 
@@ -65,20 +64,17 @@ fn operand_ok(kind: u64, operand: u64) -> bool
 }
 
 // The arity of a node with `levels` levels left for it and what is below it, or its own refusal.
-fn node_arity(kind: u64, operand: u64, levels: usize) -> Arity
+fn node_arity(kind: u64, operand: u64, levels: usize) -> Result<Arity, Refusal>
     ensures { arity_outcome result ≡ mapped arity (node_kind levels kind operand) }
 {
-    let known = arity_of(kind);
-    if let Arity::Refused(r) = known {
-        return Arity::Refused(r);
-    }
+    let arity = arity_of(kind)?;
     if !operand_ok(kind, operand) {
-        return Arity::Refused(Refusal::OperandOutOfRange);
+        return Err(Refusal::OperandOutOfRange);
     }
     if levels == 0 {
-        return Arity::Refused(Refusal::TooDeep);
+        return Err(Refusal::TooDeep);
     }
-    known
+    Ok(arity)
 }
 
 // Whether so many words are a whole number of nodes, from 1 to 512.
@@ -95,149 +91,103 @@ fn word_count_ok(count: usize) -> bool
 }
 
 // The subtree at the front of the words, of at most `levels` levels: its nodes, or the first refusal in word order.
-fn check_at(ws: &[u64], levels: usize) -> Counted
-    ensures { counted_outcome result ≡ mapped (λ p. nodes p.0) (subtree levels ws.now) }
+fn check_at(ws: &[u64], levels: usize) -> Result<usize, Refusal>
+    ensures { outcome result ≡ mapped (λ p. nodes p.0) (subtree levels ws.now) }
 {
     if ws.len() < 2 {
-        return Counted::Refused(Refusal::WordsEnd);
+        return Err(Refusal::WordsEnd);
     }
-    let arity = node_arity(ws[0], ws[1], levels);
+    let arity = node_arity(ws[0], ws[1], levels)?;
     let rest = &ws[2..];
     match arity {
-        Arity::Refused(r) => Counted::Refused(r),
-        Arity::Zero => Counted::Count(1),
-        Arity::One => match check_at(rest, levels - 1) {
-            Counted::Refused(r) => Counted::Refused(r),
-            Counted::Count(n) => Counted::Count(n + 1),
-        },
+        Arity::Zero => Ok(1),
+        Arity::One => {
+            let n = check_at(rest, levels - 1)?;
+            Ok(n + 1)
+        }
         Arity::Two => {
             let below = levels - 1;
-            match check_at(rest, below) {
-                Counted::Refused(r) => Counted::Refused(r),
-                Counted::Count(n) => {
-                    let right = 2 * n;
-                    match check_at(&rest[right..], below) {
-                        Counted::Refused(r) => Counted::Refused(r),
-                        Counted::Count(m) => Counted::Count(n + m + 1),
-                    }
-                }
-            }
+            let n = check_at(rest, below)?;
+            let right = 2 * n;
+            let m = check_at(&rest[right..], below)?;
+            Ok(n + m + 1)
         }
     }
 }
 
 // The number of nodes of the tree that the words are, or the refusal.
-pub fn check_tree(words: &[u64]) -> Counted
-    ensures { counted_outcome result ≡ mapped nodes (parse words.now) }
+pub fn check_tree(words: &[u64]) -> Result<usize, Refusal>
+    ensures { outcome result ≡ mapped nodes (parse words.now) }
 {
     let n = words.len();
     if !word_count_ok(n) {
-        return Counted::Refused(Refusal::WordCount);
+        return Err(Refusal::WordCount);
     }
-    match check_at(words, 64) {
-        Counted::Refused(r) => Counted::Refused(r),
-        Counted::Count(m) => {
-            if 2 * m < n {
-                return Counted::Refused(Refusal::WordsLeftOver);
-            }
-            Counted::Count(m)
-        }
+    let m = check_at(words, 64)?;
+    if 2 * m < n {
+        return Err(Refusal::WordsLeftOver);
     }
+    Ok(m)
 }
 
 // The length of the first subtree in words, or the refusal. It looks at no operand, no depth and nothing behind the subtree.
-pub fn span(words: &[u64]) -> Counted
-    ensures { counted_outcome result ≡ span_of words.now }
+pub fn span(words: &[u64]) -> Result<usize, Refusal>
+    ensures { outcome result ≡ span_of words.now }
 {
     if !word_count_ok(words.len()) {
-        return Counted::Refused(Refusal::WordCount);
+        return Err(Refusal::WordCount);
     }
+    // how many subtrees are still to come
     let mut due: usize = 1;
-    let mut at: usize = 0;
-    while 0 < due {
-        if words.len() <= at {
-            return Counted::Refused(Refusal::WordsEnd);
-        }
-        let kind = words[at];
-        at += 2;
-        match arity_of(kind) {
-            Arity::Refused(r) => return Counted::Refused(r),
-            Arity::Zero => due -= 1,
-            Arity::One => {}
-            Arity::Two => due += 1,
+    for at in (0..words.len()).step_by(2) {
+        let arity = arity_of(words[at])?;
+        due = due + arity.children() - 1;
+        if due == 0 {
+            return Ok(at + 2);
         }
     }
-    Counted::Count(at)
+    Err(Refusal::WordsEnd)
 }
 
 // Whether two trees are equal: their words are the same.
 pub fn same_words(a: &[u64], b: &[u64]) -> bool
     ensures { result ≡ same_words a.now b.now }
 {
-    if a.len() != b.len() {
-        return false;
-    }
-    let mut i = 0;
-    while i < a.len() {
-        if a[i] != b[i] {
-            return false;
-        }
-        i += 1;
-    }
-    true
-}
-
-fn shorter(a: usize, b: usize) -> usize
-    ensures { result ≡ min a b }
-{
-    if a < b {
-        return a;
-    }
-    b
+    a == b
 }
 
 // Copies words to the front of `out`, as many as it has room for.
 pub fn copy_words(words: &[u64], out: &mut [u64])
     ensures { out.new ≡ over (take (length out.old) words.now) out.old }
 {
-    let n = shorter(words.len(), out.len());
-    let mut at = 0;
-    while at < n {
-        out[at] = words[at];
-        at += 1;
-    }
+    let n = words.len().min(out.len());
+    out[..n].copy_from_slice(&words[..n]);
 }
 
 // Whether one of a tree's nodes is a Variable: its kind words stand at the even places.
 fn has_variable(words: &[u64]) -> bool
     ensures { (t : Expr) → words.now ≡ encode t → result ≡ has_var_dep_of t }
 {
-    let mut i = 0;
-    while i < words.len() {
-        if words[i] == kind::VARIABLE {
+    for at in (0..words.len()).step_by(2) {
+        if words[at] == kind::VARIABLE {
             return true;
         }
-        i += 2;
     }
     false
 }
 
 // Whether the tree has a Variable.
-pub fn has_var_dep(words: &[u64]) -> Verdict
-    ensures { verdict_outcome result ≡ mapped has_var_dep_of (parse words.now) }
+pub fn has_var_dep(words: &[u64]) -> Result<bool, Refusal>
+    ensures { outcome result ≡ mapped has_var_dep_of (parse words.now) }
 {
-    match check_tree(words) {
-        Counted::Refused(r) => Verdict::Refused(r),
-        Counted::Count(_) => Verdict::Known(has_variable(words)),
-    }
+    check_tree(words)?;
+    Ok(has_variable(words))
 }
 
 // Whether the tree has no Variable.
-pub fn is_constant_subtree(words: &[u64]) -> Verdict
-    ensures { verdict_outcome result ≡ mapped is_constant_subtree (parse words.now) }
+pub fn is_constant_subtree(words: &[u64]) -> Result<bool, Refusal>
+    ensures { outcome result ≡ mapped is_constant_subtree (parse words.now) }
 {
-    match has_var_dep(words) {
-        Verdict::Refused(r) => Verdict::Refused(r),
-        Verdict::Known(dep) => Verdict::Known(!dep),
-    }
+    let dep = has_var_dep(words)?;
+    Ok(!dep)
 }

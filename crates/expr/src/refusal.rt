@@ -3,7 +3,7 @@
 ghost use Rattle.std.specs.Prelude.{◌≡◌};
 ghost use Rattle.expr.specs.Refusals.{reason_of};
 
-#[derive(Clone, Copy)]
+#[derive(Clone, Copy, PartialEq, Eq)]
 pub enum Refusal {
     // 1: the call's width is not one of 1 to 64.
     WidthOutOfRange,
@@ -39,7 +39,7 @@ pub enum Refusal {
 }
 
 // A refusal as document 01 tells it: its number and the two values that it carries.
-#[derive(Clone, Copy)]
+#[derive(Clone, Copy, PartialEq, Eq)]
 pub struct Reason {
     pub number: u32,
     pub first: u32,
@@ -58,24 +58,26 @@ fn numbered(number: u32, first: u32, second: u32) -> Reason
 }
 
 // The number and the values of a refusal.
-pub fn reason_of(r: Refusal) -> Reason
-    ensures { result ≡ reason_of r }
-{
-    match r {
-        Refusal::WidthOutOfRange => numbered(1, 0, 0),
-        Refusal::WordCount => numbered(2, 0, 0),
-        Refusal::UnknownKind => numbered(3, 0, 0),
-        Refusal::OperandOutOfRange => numbered(4, 0, 0),
-        Refusal::TooDeep => numbered(5, 0, 0),
-        Refusal::WordsEnd => numbered(6, 0, 0),
-        Refusal::WordsLeftOver => numbered(7, 0, 0),
-        Refusal::NotUniform => numbered(8, 0, 0),
-        Refusal::OutputTooSmall => numbered(9, 0, 0),
-        Refusal::UnsupportedWidth(width) => numbered(10, width, 0),
-        Refusal::WidthMismatch(left, right) => numbered(11, left, right),
-        Refusal::NarrowingExtension(target, child) => numbered(12, target, child),
-        Refusal::WideningTruncation(target, child) => numbered(13, target, child),
-        Refusal::NoFrame => numbered(14, 0, 0),
-        Refusal::NoWord => numbered(15, 0, 0),
+impl From<Refusal> for Reason {
+    ghost from_gives = { λ refusal reason. reason ≡ reason_of refusal };
+
+    fn from(refusal: Refusal) -> Reason {
+        match refusal {
+            Refusal::WidthOutOfRange => numbered(1, 0, 0),
+            Refusal::WordCount => numbered(2, 0, 0),
+            Refusal::UnknownKind => numbered(3, 0, 0),
+            Refusal::OperandOutOfRange => numbered(4, 0, 0),
+            Refusal::TooDeep => numbered(5, 0, 0),
+            Refusal::WordsEnd => numbered(6, 0, 0),
+            Refusal::WordsLeftOver => numbered(7, 0, 0),
+            Refusal::NotUniform => numbered(8, 0, 0),
+            Refusal::OutputTooSmall => numbered(9, 0, 0),
+            Refusal::UnsupportedWidth(width) => numbered(10, width, 0),
+            Refusal::WidthMismatch(left, right) => numbered(11, left, right),
+            Refusal::NarrowingExtension(target, child) => numbered(12, target, child),
+            Refusal::WideningTruncation(target, child) => numbered(13, target, child),
+            Refusal::NoFrame => numbered(14, 0, 0),
+            Refusal::NoWord => numbered(15, 0, 0),
+        }
     }
 }

@@ -1,6 +1,8 @@
 -- expr_cost.rs: the cost of a tree, and which of two costs is better. Definitions only.
 use Rattle.std.specs.Prelude.{Bool, false, ◌&&◌, ◌||◌, ℕ, ◌+◌, ltb, eqb, if◌then◌else◌}
-use Rattle.expr.specs.Expr.{Binary, Add, Mul, And, Or, Xor, Concat, Expr, leaf, unary, binary, depth}
+use Rattle.expr.specs.Expr.{Expr, leaf, unary, binary, depth}
+use Rattle.expr.specs.declared.kind.Binary.{Binary}
+use Rattle.expr.specs.declared.kind.Binary.TheVariants.{Add, Mul, And, Or, Xor, Concat}
 use Rattle.expr.specs.ExprUtils.{has_var_dep_of}
 use Rattle.expr_cost.specs.declared.ExprCost.{ExprCost}
 use Rattle.expr_cost.specs.declared.CostInfo.{CostInfo}

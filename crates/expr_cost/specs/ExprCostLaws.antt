@@ -1,9 +1,12 @@
 -- What a cost can come to, and that 'better' is an order. Assumes nothing.
-use Rattle.std.specs.Prelude.{◌≡◌, refl, Bool, true, false, ◌&&◌, ◌||◌, ◌⊎◌, ℕ, ◌+◌, ◌*◌, ◌≤◌, ◌<◌, ltb, eqb, if◌then◌else◌}
-use Rattle.std.proofs.Common.{inl, inr, ⊎_elim, arith, mul-add, le_refl, ltb-true, eqb-true, lt-ltb, le-ltb, eq-eqb}
+use Rattle.std.specs.Prelude.{◌≡◌, refl, Bool, true, false, ◌&&◌, ◌||◌, ◌⊎◌, ℕ, ◌+◌, ◌*◌, ◌^◌, ◌≤◌, ◌<◌, ltb, eqb, if◌then◌else◌}
+use Rattle.std.proofs.Common.{sym, subst, inl, inr, ⊎_elim, arith, mul-add, le_refl, ltb-true, eqb-true, lt-ltb, le-ltb, eq-eqb}
 use Rattle.expr.specs.Expr.{Expr, leaf, unary, binary, nodes}
+use Rattle.expr.specs.ExprLaws.{depth_nodes}
 use Rattle.expr_cost.specs.declared.ExprCost.{ExprCost}
-use Rattle.expr_cost.specs.ExprCost.{is_nonlinear, own_weight, weighted_size_of, nonlinear_mul_count_of, is_better}
+use Rattle.expr_cost.specs.declared.CostInfo.{CostInfo}
+use Rattle.expr_cost.specs.ExprCost.{is_nonlinear, own_weight, weighted_size_of, nonlinear_mul_count_of, compute_cost, is_better}
+use Rattle.expr_cost.specs.Promises.{Small}
 
 -- whatever a node weighs at most, a tree weighs at most that for each of its nodes
 pub weight_most : (m : ℕ) → ((b : Bool) → own_weight b ≤ m) → (t : Expr) → weighted_size_of t ≤ m * nodes t
@@ -66,3 +69,19 @@ better_transitive a b c =
   where
     lower : (x y z : ℕ) → ltb x y ≡ true → ltb y z ≡ true → ltb x z ≡ true
     lower x y z h g = lt-ltb x z (omega (arith, ltb-true x y h, ltb-true y z g))
+
+-- far above what a node weighs: other weights would need no other bounds
+pub own_most : (b : Bool) → own_weight b ≤ 2 ^ 20
+own_most true = omega arith
+own_most false = omega arith
+
+-- the cost of at most 512 nodes is small
+pub small_cost : (info : CostInfo) (t : Expr) → nodes t ≤ 512 → info ≡ compute_cost t → Small info
+unfolding compute_cost
+small_cost info t few e =
+    subst Small (sym e)
+    (record {
+      weight = omega (arith, weight_most (2 ^ 20) own_most t);
+      products = omega (arith, products_most t);
+      levels = omega (arith, depth_nodes t);
+    })

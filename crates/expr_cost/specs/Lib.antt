@@ -1,4 +1,3 @@
 pub mod ExprCost
-pub mod Answers
 pub mod Promises
 pub mod ExprCostLaws

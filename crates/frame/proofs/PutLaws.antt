@@ -1,22 +1,14 @@
 -- A frame that is written. Assumes nothing.
-use mathlib.Core.Path.{◌≡◌, sym, ap, ap₂, subst, ◌∙◌}
-use mathlib.Core.List.{List, [], ◌∷◌, ◌++◌, append_assoc}
-use Prim.Native.Nat.{ℕ, suc, ◌+◌, ◌-◌, ◌*◌, ◌/◌, ◌≤◌, ◌<◌, min}
-use native.Mathlib.Omega.{arith}
-use lib.ListN.{length, drop, set, get_or, length-append, length-set}
-use lib.Seq.{drop-cons, set_at}
-use mir.Syntax.{w64}
-use mir.Val.{Fits}
+use Rattle.std.proofs.Common.{◌≡◌, sym, ap, ap₂, subst, ◌∙◌, List, [], ◌∷◌, ◌++◌, append_assoc, ℕ, suc, ◌+◌, ◌-◌, ◌*◌, ◌/◌, ◌≤◌, ◌<◌, min, length, drop, get_or, arith, length-append, drop-cons, Fits, w64}
+use Rattle.std.proofs.Math.ListN.{set}
+use Rattle.std.proofs.Math.Seq.{set_at}
 use borrow.Rule.Slice.PartMut.{put_mid}
-use Rattle.expr.specs.declared.refusal.Refusal.{Refusal}
-use Rattle.expr.specs.declared.Counted.{Counted}
-use Rattle.expr.specs.declared.Counted.TheVariants as counted
-use Rattle.expr.specs.Refusals.{refusal, reason_of}
+use Rattle.expr.specs.declared.refusal.Reason.{Reason}
+use Rattle.expr.specs.Refusals.{refusal}
 use Rattle.expr.specs.Outcome.{Outcome, refused, accepted, mapped}
 use Rattle.expr.specs.OutcomeLaws.{refused_then}
 use Rattle.expr.specs.Expr.{Expr, nodes}
 use Rattle.expr.specs.ExprLaws.{length_encode}
-use Rattle.expr.specs.Answers.{counted_outcome}
 use Rattle.expr.specs.Parts.{tail, Laid}
 use Rattle.expr.specs.TailLaws.{length_tail}
 use Rattle.expr.specs.Lent.{over, lent_after}
@@ -58,32 +50,32 @@ module _ (ws : List ℕ) (w : ℕ) (before : List ℕ) (h : 3 + 18 * (length ws 
       let all : min (length ws / 2) (length (tail 2 first) / 18) ≡ length ws / 2 = omega (arith, length_tail 2 first) in
       laid_on before first (digits 2 w) k 2 (sym (length_digits 2 w)) rest (nodes_text (length ws / 2) ws) (record { is = f ∙ ap (λ (i : ℕ). over (nodes_text i ws) (tail 2 first)) all })
 
-  pub frame_long : (i x : ℕ) → length (set (put_mid 2 (length first - 2) first rest) i x) ≡ length before
-  frame_long i x = length-set (put_mid 2 (length first - 2) first rest) i x ∙ laid_length before (put_mid 2 (length first - 2) first rest) both both_laid (omega (arith, both_long))
-
-  pub frame_laid : Laid before (set (put_mid 2 (length first - 2) first rest) (2 + 18 * (length ws / 2)) 10) (digits 2 w ++ (nodes_text (length ws / 2) ws ++ (10 ∷ [])))
+  frame_laid : Laid before (set (put_mid 2 (length first - 2) first rest) (2 + 18 * (length ws / 2)) 10) (digits 2 w ++ (nodes_text (length ws / 2) ws ++ (10 ∷ [])))
   unfolding both
   frame_laid =
       subst (Laid before (set (put_mid 2 (length first - 2) first rest) (2 + 18 * (length ws / 2)) 10)) (append_assoc (digits 2 w) (nodes_text (length ws / 2) ws) (10 ∷ []))
       (one_laid before (put_mid 2 (length first - 2) first rest) both (2 + 18 * (length ws / 2)) 10 both_laid (sym both_long) (omega arith))
 
+  pub frame_put : set (put_mid 2 (length first - 2) first rest) (2 + 18 * (length ws / 2)) 10 ≡ over (digits 2 w ++ (nodes_text (length ws / 2) ws ++ (10 ∷ []))) before
+  frame_put = frame_laid.is
+
 -- ---- `write_frame`
 
-module _ (w : ℕ) (ws : List ℕ) (room : ℕ) (x : Counted) (h : counted_outcome x ≡ mapped nodes (checked w ws)) where
-  module _ (r : Refusal) (e : x ≡ counted.Refused r) where
-    not_written : write_frame ws w room ≡ refused (reason_of r)
+module _ (w : ℕ) (ws : List ℕ) (room : ℕ) where
+  module _ (r : Reason) (h : refused r ≡ mapped nodes (checked w ws)) where
+    not_written : write_frame ws w room ≡ refused r
     unfolding write_frame
-    not_written = sym (refused_then nodes (with_bytes room) (checked w ws) (ap counted_outcome (sym e) ∙ h))
+    not_written = sym (refused_then nodes (with_bytes room) (checked w ws) h)
 
-    pub check_answer : refused (reason_of r) ≡ mapped (λ t. 3 + 18 * nodes t) (write_frame ws w room)
+    pub check_answer : refused r ≡ mapped (λ t. 3 + 18 * nodes t) (write_frame ws w room)
     check_answer = sym (ap (mapped (λ t. 3 + 18 * nodes t)) not_written)
 
     pub check_memory : (before : List ℕ) → before ≡ lent_after (frame w) (write_frame ws w room) before
     check_memory before = sym (ap (λ (o : Outcome Expr). lent_after (frame w) o before) not_written)
 
-  module _ (n : ℕ) (e : x ≡ counted.Count n) where
+  module _ (n : ℕ) (h : accepted n ≡ mapped nodes (checked w ws)) where
     found : Tree w ws n
-    found = checked_tree w ws x h n e
+    found = checked_tree w ws n h
 
     half : length ws / 2 ≡ n
     half = omega (arith, ap length found.words, length_encode found.tree, found.count)
@@ -106,21 +98,22 @@ module _ (w : ℕ) (ws : List ℕ) (room : ℕ) (x : Counted) (h : counted_outco
       room_memory before = sym (ap (λ (o : Outcome Expr). lent_after (frame w) o before) no_room)
 
     module _ (l : 3 + 18 * n ≤ room) where
-      with_room_lem : write_frame ws w room ≡ accepted found.tree
+      with_room : write_frame ws w room ≡ accepted found.tree
       unfolding write_frame
-      with_room_lem = enough _ room found.is (let f : 3 + 18 * nodes found.tree ≤ room = omega (arith, found.count) in f)
+      with_room = enough _ room found.is (let f : 3 + 18 * nodes found.tree ≤ room = omega (arith, found.count) in f)
 
       pub frame_fits : 3 + 18 * (length ws / 2) ≤ room
       frame_fits = omega (arith, half)
 
-      pub written_answer : accepted (3 + 18 * n) ≡ mapped (λ t. 3 + 18 * nodes t) (write_frame ws w room)
-      written_answer = sym (ap (mapped (λ t. 3 + 18 * nodes t)) with_room_lem ∙ ap (λ (i : ℕ). accepted (3 + 18 * i)) found.count)
+      pub written_answer : (count : ℕ) → count ≡ 3 + 18 * (length ws / 2) → accepted count ≡ mapped (λ t. 3 + 18 * nodes t) (write_frame ws w room)
+      written_answer count e =
+          ap accepted (e ∙ ap (λ (i : ℕ). 3 + 18 * i) (half ∙ sym found.count)) ∙ sym (ap (mapped (λ t. 3 + 18 * nodes t)) with_room)
 
-      pub written_memory : (before after : List ℕ) → Laid before after (digits 2 w ++ (nodes_text (length ws / 2) ws ++ (10 ∷ []))) → after ≡ lent_after (frame w) (write_frame ws w room) before
+      pub written_memory : (before after : List ℕ) → after ≡ over (digits 2 w ++ (nodes_text (length ws / 2) ws ++ (10 ∷ []))) before → after ≡ lent_after (frame w) (write_frame ws w room) before
       unfolding frame
       written_memory before after m =
           let same : digits 2 w ++ (nodes_text (length ws / 2) ws ++ (10 ∷ [])) ≡ frame w found.tree =
           ap (λ (xs : List ℕ). digits 2 w ++ (xs ++ (10 ∷ []))) (ap₂ nodes_text (half ∙ sym found.count) found.words) in
-          m.is ∙ ap (λ (xs : List ℕ). over xs before) same ∙ sym (ap (λ (o : Outcome Expr). lent_after (frame w) o before) with_room_lem)
+          m ∙ ap (λ (xs : List ℕ). over xs before) same ∙ sym (ap (λ (o : Outcome Expr). lent_after (frame w) o before) with_room)
 
 pub ruleset writing = (check_answer, check_memory, nodes_fit, bytes_fit, room_answer, room_memory, frame_fits, written_answer, written_memory)

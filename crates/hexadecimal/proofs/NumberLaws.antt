@@ -1,44 +1,18 @@
 -- Numbers that are read and written digit by digit. Assumes nothing.
 use mathlib.Core.Path.{◌≡◌, refl, sym, ap, ap₂, ◌∙◌}
-use mathlib.Core.Bool.{Bool, true, false, ◌&&◌, ◌||◌}
+use mathlib.Core.Bool.{Bool, true, false, ◌&&◌}
 use mathlib.Core.List.{List, [], ◌∷◌, ◌++◌, append_assoc}
-use Prim.Native.Nat.{ℕ, zero, suc, ◌+◌, ◌-◌, ◌*◌, ◌/◌, ◌%◌, ◌^◌, ◌≤◌, ◌<◌, min}
+use Prim.Native.Nat.{ℕ, zero, suc, ◌+◌, ◌-◌, ◌*◌, ◌/◌, ◌%◌, ◌^◌, ◌≤◌, ◌<◌}
 use native.Mathlib.Nat.{pow-suc}
 use native.Mathlib.Omega.{arith}
 use lib.Dec.{ltb}
-use lib.ListN.{length, take, drop, get_or, set, length-set}
+use lib.ListN.{length, take, drop, get_or, set}
 use lib.Seq.{take-suc, take_all, set_split, drop_at, length-take-le}
-use borrow.Author.Tests.{lt-ltb, le-ltb, le-leb, lt-leb}
+use borrow.Author.Tests.{lt-ltb, le-ltb}
 use Rattle.expr.specs.Lent.{over}
 use Rattle.hexadecimal.specs.Hex.{glyph_of, digit_of, digits, all_digits, number_from, number_of, places_from, places}
-use Rattle.hexadecimal.specs.HexLaws.{digit_cases, all_append, number_last, length_digits}
+use Rattle.hexadecimal.specs.HexLaws.{all_append, number_last, length_digits}
 use Rattle.hexadecimal.specs.declared.Parsed.{Parsed}
-
--- ---- `digit`: the two ranges as one test
-
-abbrev is_digit : ℕ → Bool
-is_digit b = (ltb 47 b && ltb b 58) || (ltb 96 b && ltb b 103)
-
-module _ (b : ℕ) where
-  in_low : 48 ≤ b → b < 58 → is_digit b ≡ true
-  in_low p q = rw (le-leb 48 b p, lt-ltb b 58 q)
-
-  in_high : 97 ≤ b → b < 103 → is_digit b ≡ true
-  in_high p q = rw (le-leb 48 b (omega arith), le-ltb b 58 (omega arith), le-leb 97 b p, lt-ltb b 103 q)
-
-  pub is_digit_lem : is_digit b ≡ true → b % 16 + 9 * (b / 64) ≡ digit_of b
-  is_digit_lem e =
-      digit_cases (λ d. b % 16 + 9 * (b / 64) ≡ d) b (λ p q. omega arith) (λ p q. omega arith)
-      (λ p. absurd (let z : true ≡ false = sym e ∙ rw (lt-leb 48 b p, lt-leb 97 b (omega arith)) in let y : ◌≡◌ {A = ℕ} 0 1 = cc in omega arith))
-      (λ p q. absurd (let z : true ≡ false = sym e ∙ rw (le-leb 48 b (omega arith), le-ltb b 58 p, lt-leb 97 b q) in let y : ◌≡◌ {A = ℕ} 0 1 = cc in omega arith))
-      (λ p. absurd (let z : true ≡ false = sym e ∙ rw (le-leb 48 b (omega arith), le-ltb b 58 (omega arith), le-leb 97 b (omega arith), le-ltb b 103 p) in let y : ◌≡◌ {A = ℕ} 0 1 = cc in omega arith))
-
-  pub no_digit : is_digit b ≡ false → 16 ≡ digit_of b
-  no_digit e =
-      digit_cases (λ d. 16 ≡ d) b
-      (λ p q. absurd (let z = in_low p q in let y : ◌≡◌ {A = ℕ} 0 1 = cc in omega arith))
-      (λ p q. absurd (let z = in_high p q in let y : ◌≡◌ {A = ℕ} 0 1 = cc in omega arith))
-      (λ p. refl) (λ p q. refl) (λ p. refl)
 
 -- ---- `number`
 
@@ -46,23 +20,21 @@ module _ (b : ℕ) where
 pub record Reading (s : List ℕ) (value : ℕ) (good : Bool) (i : ℕ) : Type 0 where
   pub value_is : value ≡ number_of (take i s) % 2 ^ 64
   pub good_is : good ≡ all_digits (take i s)
-  pub turn : i ≤ length s
 
 pub none_read : (s : List ℕ) → Reading s 0 true 0
 unfolding number_from all_digits
-none_read s = record { value_is = refl; good_is = refl; turn = omega arith }
+none_read s = record { value_is = refl; good_is = refl }
 
 module _ (s : List ℕ) (value : ℕ) (good : Bool) (i : ℕ) (r : Reading s value good i) where
-  pub one_read : i < length s → (d : ℕ) → d ≡ digit_of (get_or s i 0) → Reading s (value % 2 ^ 60 * 16 + d % 16) (good && ltb d 16) (i + 1)
+  pub one_read : i < length s → (d : ℕ) (there : Bool) → d ≡ digit_of (get_or s i 0) % 16 → there ≡ ltb (digit_of (get_or s i 0)) 16 → Reading s (value % 2 ^ 60 * 16 + d) (good && there) (i + 1)
   unfolding all_digits
-  one_read l d e =
+  one_read l d there e f =
       let b : ℕ = get_or s i 0 in
       let t : take (i + 1) s ≡ take i s ++ (b ∷ []) = ap (λ (j : ℕ). take j s) (let f : i + 1 ≡ suc i = omega arith in f) ∙ take-suc s i 0 l in
-      let n : number_of (take (i + 1) s) ≡ number_of (take i s) * 16 + d % 16 = ap number_of t ∙ number_last 0 (take i s) b ∙ ap (λ (x : ℕ). number_of (take i s) * 16 + x % 16) (sym e) in
+      let n : number_of (take (i + 1) s) ≡ number_of (take i s) * 16 + d = ap number_of t ∙ number_last 0 (take i s) b ∙ ap (λ (x : ℕ). number_of (take i s) * 16 + x) (sym e) in
       record {
         value_is = rw n (omega (arith, r.value_is));
-        good_is = ap₂ ◌&&◌ r.good_is (ap (λ (x : ℕ). ltb x 16) e ∙ and_true (ltb (digit_of b) 16)) ∙ sym (all_append (take i s) (b ∷ [])) ∙ ap all_digits (sym t);
-        turn = omega arith;
+        good_is = ap₂ ◌&&◌ r.good_is (f ∙ and_true (ltb (digit_of b) 16)) ∙ sym (all_append (take i s) (b ∷ [])) ∙ ap all_digits (sym t);
       }
     where
       and_true : (p : Bool) → p ≡ (p && true)
@@ -82,42 +54,33 @@ pub ruleset reading = (none_read, one_read, all_read)
 pub record Putting (n k : ℕ) (before after : List ℕ) (i rest : ℕ) : Type 0 where
   pub is : digits i rest ++ drop i after ≡ over (digits k n) before
   pub within : i ≤ length before
-  pub long : length after ≡ length before
 
 module _ (n k : ℕ) (before : List ℕ) where
-  pub none_put : (m : ℕ) → m ≡ min k (length before) → Putting n (min k (length before)) before before m n
-  none_put m e = record {
-    is = ap₂ (λ (i j : ℕ). digits i n ++ drop j before) e (e ∙ sym (length_digits (min k (length before)) n));
-    within = omega arith;
-    long = refl;
+  pub none_put : k ≤ length before → Putting n k before before k n
+  none_put h = record {
+    is = ap (λ (j : ℕ). digits k n ++ drop j before) (sym (length_digits k n));
+    within = h;
   }
 
   module _ (after : List ℕ) (i rest : ℕ) (p : Putting n k before after i rest) where
-    pub put_inside : 0 < i → i - 1 < length after
-    put_inside h = omega (arith, p.within, p.long)
-
-    pub one_put : 0 < i → (g : ℕ) → g ≡ glyph_of (rest % 16) → Putting n k before (set after (i - 1) g) (i - 1) (rest / 16)
+    pub one_put : 0 < i → length after ≡ length before → (g : ℕ) → g ≡ glyph_of (rest % 16) → Putting n k before (set after (i - 1) g) (i - 1) (rest / 16)
     unfolding digits
-    one_put h g e =
+    one_put h f g e =
         let j : ℕ = i - 1 in
         let s : suc j ≡ i = omega arith in
-        let l : j < length after = put_inside h in
+        let l : j < length after = omega (arith, p.within) in
         let c : drop j (set after j g) ≡ g ∷ drop (suc j) after = ap (drop j) (set_split after j g l) ∙ drop_at (take j after) (g ∷ drop (suc j) after) j (length-take-le j after (omega arith)) in
         record {
           is =
               rw (c, e) (sym (append_assoc (digits j (rest / 16)) (glyph_of (rest % 16) ∷ []) (drop (suc j) after)) ∙ ap (λ (m : ℕ). digits m rest ++ drop m after) s ∙ p.is);
           within = omega (arith, p.within);
-          long = length-set after j g ∙ p.long;
         }
 
     pub all_put : i ≤ 0 → after ≡ over (digits k n) before
     unfolding digits
     all_put h = ap (λ (j : ℕ). digits j rest ++ drop j after) (let e : 0 ≡ i = omega arith in e) ∙ p.is
 
-    pub put_long : length after ≡ length before
-    put_long = p.long
-
-pub ruleset putting = (none_put, put_inside, one_put, all_put, put_long)
+pub ruleset putting = (none_put, one_put, all_put)
 
 -- ---- `count_places`
 
@@ -154,12 +117,3 @@ module _ (n count rest : ℕ) where
       go (suc more) e = let f : count + 1 ≡ suc (places n) = rw (lt-ltb rest 16 (omega arith)) at e in omega arith
 
 pub ruleset counting = (one_counted, one_more, all_counted)
-
--- ---- `put_number`
-
-module _ (n m k : ℕ) (before : List ℕ) (e : m ≡ places n) (f : k ≡ min m (length before)) where
-  pub number_count : k ≡ min (places n) (length before)
-  number_count = f ∙ ap (λ (i : ℕ). min i (length before)) e
-
-  pub number_put : (after : List ℕ) → after ≡ over (digits (min k (length before)) n) before → after ≡ over (digits k n) before
-  number_put after g = g ∙ ap (λ (i : ℕ). over (digits i n) before) (let h : min k (length before) ≡ k = omega arith in h)

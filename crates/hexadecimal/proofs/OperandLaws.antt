@@ -2,14 +2,15 @@
 use mathlib.Core.Path.{◌≡◌, refl, sym, ap, ap₂, subst, ◌∙◌}
 use mathlib.Core.Bool.{Bool, true, false, ◌&&◌}
 use mathlib.Core.List.{List, [], ◌∷◌, ◌++◌, append_assoc, append-nil}
-use Prim.Native.Nat.{ℕ, zero, suc, ◌+◌, ◌-◌, ◌*◌, ◌/◌, ◌%◌, ◌^◌, ◌≤◌, ◌<◌, min}
+use Prim.Native.Nat.{ℕ, zero, suc, ◌+◌, ◌*◌, ◌/◌, ◌%◌, ◌^◌, ◌≤◌, ◌<◌, min}
 use native.Mathlib.Nat.{pow-suc, add-zero, add-mul, mul_assoc, mul_comm, div-div-eq-div-mul}
 use native.Mathlib.Omega.{arith}
 use lib.Dec.{eqb}
-use lib.ListN.{length, take, drop, get_or, set, length-set, length-append, length-drop}
-use lib.Seq.{take-suc, take_all, take-add, take_at, drop_at, drop-drop, drop-cons, drop-length, set_at, length-take-le}
+use lib.ListN.{length, take, drop, get_or, length-append, length-drop}
+use lib.Seq.{take-suc, take_all, take-add, take_at, drop_at, drop-drop, drop-length, length-take-le}
 use borrow.Author.Tests.{eqb-true}
 use borrow.Rule.Slice.PartMut.{put_mid}
+use Rattle.std.specs.Prelude.{replicate}
 use Rattle.expr.specs.Parts.{part, Laid}
 use Rattle.expr.specs.Lent.{over}
 use Rattle.arith.specs.ChoiceLaws.{both_true}
@@ -37,11 +38,10 @@ zeros_last (c ∷ bs) b = ap (λ (t : Bool). eqb c 48 && t) (zeros_last bs b) �
 -- after i turns it is known of the first i bytes
 pub record Testing (s : List ℕ) (zeros : Bool) (i : ℕ) : Type 0 where
   pub is : zeros ≡ all_zeros (take i s)
-  pub turn : i ≤ length s
 
 pub none_tested : (s : List ℕ) → Testing s true 0
 unfolding all_zeros
-none_tested s = record { is = refl; turn = omega arith }
+none_tested s = record { is = refl }
 
 module _ (s : List ℕ) (zeros : Bool) (i : ℕ) (t : Testing s zeros i) where
   pub one_tested : i < length s → Testing s (zeros && eqb (get_or s i 0) 48) (i + 1)
@@ -49,7 +49,6 @@ module _ (s : List ℕ) (zeros : Bool) (i : ℕ) (t : Testing s zeros i) where
       let e : take (i + 1) s ≡ take i s ++ (get_or s i 0 ∷ []) = ap (λ (j : ℕ). take j s) (let f : i + 1 ≡ suc i = omega arith in f) ∙ take-suc s i 0 l in
       record {
         is = ap (λ (p : Bool). p && eqb (get_or s i 0) 48) t.is ∙ sym (zeros_last (take i s) (get_or s i 0)) ∙ ap all_zeros (sym e);
-        turn = omega arith;
       }
 
   pub all_tested : length s ≤ i → zeros ≡ all_zeros s
@@ -137,52 +136,12 @@ module _ (s : List ℕ) (l : length s ≡ 16) where
 
 pub ruleset joining = (high_fits, both_fit, halves_parsed)
 
--- ---- `put_zeros`
-
--- after i turns the first i places are zeros
-pub record Clearing (before after : List ℕ) (i : ℕ) : Type 0 where
-  pub is : after ≡ digits i 0 ++ drop i before
-  pub turn : i ≤ length before
-  pub long : length after ≡ length before
-
-pub none_cleared : (before : List ℕ) → Clearing before before 0
-unfolding digits
-none_cleared before = record { is = refl; turn = omega arith; long = refl }
-
-module _ (before after : List ℕ) (i : ℕ) (c : Clearing before after i) where
-  pub one_cleared : i < length after → Clearing before (set after i 48) (i + 1)
-  unfolding digits
-  one_cleared h =
-      let n : suc i ≡ i + 1 = omega arith in
-      let l : i < length before = omega (arith, c.long) in
-      record {
-        is =
-            ap (λ (w : List ℕ). set w i 48) (c.is ∙ ap (λ (w : List ℕ). digits i 0 ++ w) (drop-cons before i 0 l))
-            ∙ set_at (digits i 0) (get_or before i 0) (drop (suc i) before) 48 i (length_digits i 0)
-            ∙ sym (append_assoc (digits i 0) (48 ∷ []) (drop (suc i) before))
-            ∙ ap (λ (j : ℕ). digits j 0 ++ drop j before) n;
-        turn = omega arith;
-        long = length-set after i 48 ∙ c.long;
-      }
-
-  pub all_cleared : length after ≤ i → after ≡ digits (length before) 0
-  all_cleared h =
-      let n : i ≡ length before = omega (arith, c.turn, c.long) in
-      c.is ∙ ap (λ (j : ℕ). digits j 0 ++ drop j before) n ∙ ap (λ (w : List ℕ). digits (length before) 0 ++ w) (drop-length before) ∙ append-nil (digits (length before) 0)
-
-  pub one_less : i < length after → length before - (i + 1) < length before - i
-  one_less h = omega (arith, c.long)
-
-  pub cleared_long : length after ≡ length before
-  cleared_long = c.long
-
-pub ruleset clearing = (none_cleared, one_cleared, one_less, all_cleared, cleared_long)
-
 -- ---- `put_half`
 
 module _ (n : ℕ) (before after : List ℕ) (l : length before ≡ 8) where
-  pub zeros_put : n ≡ 0 → after ≡ digits (length before) 0 → after ≡ digits 8 n
-  zeros_put z e = e ∙ ap₂ digits l (sym z)
+  pub zeros_put : n ≡ 0 → after ≡ replicate (length before) 48 → after ≡ digits 8 n
+  unfolding digits
+  zeros_put z e = e ∙ ap (λ (k : ℕ). replicate k 48) l ∙ ap (digits 8) (sym z)
 
   pub half_put : after ≡ over (digits (min 8 (length before)) n) before → after ≡ digits 8 n
   half_put e =

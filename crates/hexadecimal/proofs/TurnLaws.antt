@@ -8,9 +8,9 @@ use lib.ListN.{length, take, drop, set, length-drop}
 use lib.Seq.{take-add, length-take-le}
 use borrow.Rule.Slice.PartMut.{put_mid}
 use Rattle.expr.specs.Parts.{tail, part, Laid}
-use Rattle.expr.specs.TailLaws.{tail_drop, length_tail}
+use Rattle.expr.specs.TailLaws.{tail_drop}
 use Rattle.expr.specs.Lent.{over}
-use Rattle.expr.specs.LentLaws.{laid_length, laid_on}
+use Rattle.expr.specs.LentLaws.{laid_on}
 use Rattle.hexadecimal.specs.Hex.{all_digits}
 use Rattle.hexadecimal.specs.HexLaws.{all_append, number_whole}
 use Rattle.hexadecimal.specs.Nodes.{nodes_text, words_of}
@@ -45,89 +45,62 @@ module _ (s : List ℕ) (kind operand : Parsed) (e : kind ≡ parsed (part 0 2 s
 -- ---- `read_nodes`
 
 -- after i turns the words of i nodes are written
-pub record Filling (s before : List ℕ) (count : ℕ) (after : List ℕ) (good : Bool) (i : ℕ) : Type 0 where
+pub record Filling (s before after : List ℕ) (good : Bool) (i : ℕ) : Type 0 where
   pub laid : Laid before after (words_of i s)
   pub good_is : good ≡ all_digits (take (18 * i) s)
-  pub turn : i ≤ count
-  pub long : length after ≡ length before
 
-pub none_filled : (s before : List ℕ) (count : ℕ) → Filling s before count before true 0
+pub none_filled : (s before : List ℕ) → Filling s before before true 0
 unfolding words_of all_digits
-none_filled s before count = record { laid = record { is = refl }; good_is = refl; turn = omega arith; long = refl }
+none_filled s before = record { laid = record { is = refl }; good_is = refl }
 
-module _ (s before : List ℕ) (count : ℕ) (after : List ℕ) (good : Bool) (i : ℕ) (f : Filling s before count after good i) where
-  module _ (e : count ≡ min (length s / 18) (length before / 2)) where
-    pub all_good : count ≤ i → good ≡ all_digits (take (18 * min (length s / 18) (length before / 2)) s)
-    all_good h = f.good_is ∙ ap (λ (j : ℕ). all_digits (take (18 * j) s)) (let g : i ≡ min (length s / 18) (length before / 2) = omega (arith, f.turn) in g)
+module _ (s before after : List ℕ) (good : Bool) (i : ℕ) (f : Filling s before after good i) where
+  module _ (count : ℕ) (e : i ≡ count) where
+    pub all_good : good ≡ all_digits (take (18 * count) s)
+    all_good = f.good_is ∙ ap (λ (j : ℕ). all_digits (take (18 * j) s)) e
 
-    pub all_filled : count ≤ i → after ≡ over (words_of (min (length s / 18) (length before / 2)) s) before
-    all_filled h = f.laid.is ∙ ap (λ (j : ℕ). over (words_of j s) before) (let g : i ≡ min (length s / 18) (length before / 2) = omega (arith, f.turn) in g)
+    pub all_filled : after ≡ over (words_of count s) before
+    all_filled = f.laid.is ∙ ap (λ (j : ℕ). over (words_of j s) before) e
 
-    module _ (h : i < count) where
-      pub bytes_there : 18 ≤ length (tail (18 * i) s)
-      bytes_there = omega (arith, length_tail (18 * i) s)
+  module _ (h : i < min (length s / 18) (length before / 2)) where
+    pub one_filled : (right : Bool) → right ≡ all_digits (take 18 (tail (18 * i) s)) → (rest : List ℕ) → Laid (tail (2 * i) after) rest (words_of 1 (tail (18 * i) s))
+        → Filling s before (put_mid (2 * i) (length after - 2 * i) after rest) (good && right) (i + 1)
+    one_filled right g rest l =
+        let t : tail (18 * i) s ≡ drop (18 * i) s = tail_drop (18 * i) s in
+        let n : i + 1 ≡ suc i = omega arith in
+        let w : words_of i s ++ words_of 1 (tail (18 * i) s) ≡ words_of (i + 1) s = ap (λ (v : List ℕ). words_of i s ++ words_of 1 v) t ∙ sym (words_last i s) ∙ ap (λ (j : ℕ). words_of j s) (sym n) in
+        let m = subst (Laid before (put_mid (2 * i) (length after - 2 * i) after rest)) w (laid_on before after (words_of i s) f.laid (2 * i) (sym (length_words i s)) rest (words_of 1 (tail (18 * i) s)) l) in
+        record {
+          laid = m;
+          good_is =
+              ap₂ ◌&&◌ f.good_is (g ∙ ap (λ (v : List ℕ). all_digits (take 18 v)) t)
+              ∙ sym (all_append (take (18 * i) s) (take 18 (drop (18 * i) s)))
+              ∙ ap all_digits (sym (take-add (18 * i) 18 s) ∙ ap (λ (j : ℕ). take j s) (let k : 18 * i + 18 ≡ 18 * (i + 1) = omega arith in k));
+        }
 
-      pub words_there : 2 ≤ length (tail (2 * i) after)
-      words_there = omega (arith, length_tail (2 * i) after, f.long)
-
-      pub one_filled : (right : Bool) → right ≡ all_digits (take 18 (tail (18 * i) s)) → (rest : List ℕ) → Laid (tail (2 * i) after) rest (words_of 1 (tail (18 * i) s))
-          → Filling s before count (put_mid (2 * i) (length after - 2 * i) after rest) (good && right) (i + 1)
-      one_filled right g rest l =
-          let t : tail (18 * i) s ≡ drop (18 * i) s = tail_drop (18 * i) s in
-          let n : i + 1 ≡ suc i = omega arith in
-          let w : words_of i s ++ words_of 1 (tail (18 * i) s) ≡ words_of (i + 1) s = ap (λ (v : List ℕ). words_of i s ++ words_of 1 v) t ∙ sym (words_last i s) ∙ ap (λ (j : ℕ). words_of j s) (sym n) in
-          let m = subst (Laid before (put_mid (2 * i) (length after - 2 * i) after rest)) w (laid_on before after (words_of i s) f.laid (2 * i) (sym (length_words i s)) rest (words_of 1 (tail (18 * i) s)) l) in
-          record {
-            laid = m;
-            good_is =
-                ap₂ ◌&&◌ f.good_is (g ∙ ap (λ (v : List ℕ). all_digits (take 18 v)) t)
-                ∙ sym (all_append (take (18 * i) s) (take 18 (drop (18 * i) s)))
-                ∙ ap all_digits (sym (take-add (18 * i) 18 s) ∙ ap (λ (j : ℕ). take j s) (let k : 18 * i + 18 ≡ 18 * (i + 1) = omega arith in k));
-            turn = omega arith;
-            long = laid_length before (put_mid (2 * i) (length after - 2 * i) after rest) (words_of (i + 1) s) m (omega (arith, length_words (i + 1) s));
-          }
-
-  pub filled_long : length after ≡ length before
-  filled_long = f.long
-
-pub ruleset filling = (none_filled, all_good, all_filled, bytes_there, words_there, one_filled, filled_long)
+pub ruleset filling = (none_filled, all_good, all_filled)
 
 -- ---- `put_nodes`
 
 -- after i turns the digits of i nodes are written
-pub record Writing (ws before : List ℕ) (count : ℕ) (after : List ℕ) (i : ℕ) : Type 0 where
+pub record Writing (ws before after : List ℕ) (i : ℕ) : Type 0 where
   pub laid : Laid before after (nodes_text i ws)
-  pub turn : i ≤ count
-  pub long : length after ≡ length before
 
-pub none_written : (ws before : List ℕ) (count : ℕ) → Writing ws before count before 0
+pub none_written : (ws before : List ℕ) → Writing ws before before 0
 unfolding nodes_text
-none_written ws before count = record { laid = record { is = refl }; turn = omega arith; long = refl }
+none_written ws before = record { laid = record { is = refl } }
 
-module _ (ws before : List ℕ) (count : ℕ) (after : List ℕ) (i : ℕ) (f : Writing ws before count after i) where
-  module _ (e : count ≡ min (length ws / 2) (length before / 18)) where
-    pub all_written : count ≤ i → after ≡ over (nodes_text (min (length ws / 2) (length before / 18)) ws) before
-    all_written h = f.laid.is ∙ ap (λ (j : ℕ). over (nodes_text j ws) before) (let g : i ≡ min (length ws / 2) (length before / 18) = omega (arith, f.turn) in g)
+module _ (ws before after : List ℕ) (i : ℕ) (f : Writing ws before after i) where
+  pub all_written : (count : ℕ) → i ≡ count → after ≡ over (nodes_text count ws) before
+  all_written count e = f.laid.is ∙ ap (λ (j : ℕ). over (nodes_text j ws) before) e
 
-    module _ (h : i < count) where
-      pub node_there : 2 ≤ length (tail (2 * i) ws)
-      node_there = omega (arith, length_tail (2 * i) ws)
+  module _ (h : i < min (length ws / 2) (length before / 18)) where
+    pub one_written : (rest : List ℕ) → Laid (tail (18 * i) after) rest (nodes_text 1 (tail (2 * i) ws)) → Writing ws before (put_mid (18 * i) (length after - 18 * i) after rest) (i + 1)
+    one_written rest l =
+        let n : i + 1 ≡ suc i = omega arith in
+        let w : nodes_text i ws ++ nodes_text 1 (tail (2 * i) ws) ≡ nodes_text (i + 1) ws = ap (λ (v : List ℕ). nodes_text i ws ++ nodes_text 1 v) (tail_drop (2 * i) ws) ∙ sym (nodes_last i ws) ∙ ap (λ (j : ℕ). nodes_text j ws) (sym n) in
+        let m = subst (Laid before (put_mid (18 * i) (length after - 18 * i) after rest)) w (laid_on before after (nodes_text i ws) f.laid (18 * i) (sym (length_nodes i ws)) rest (nodes_text 1 (tail (2 * i) ws)) l) in
+        record {
+          laid = m;
+        }
 
-      pub room_there : 18 ≤ length (tail (18 * i) after)
-      room_there = omega (arith, length_tail (18 * i) after, f.long)
-
-      pub one_written : (rest : List ℕ) → Laid (tail (18 * i) after) rest (nodes_text 1 (tail (2 * i) ws)) → Writing ws before count (put_mid (18 * i) (length after - 18 * i) after rest) (i + 1)
-      one_written rest l =
-          let n : i + 1 ≡ suc i = omega arith in
-          let w : nodes_text i ws ++ nodes_text 1 (tail (2 * i) ws) ≡ nodes_text (i + 1) ws = ap (λ (v : List ℕ). nodes_text i ws ++ nodes_text 1 v) (tail_drop (2 * i) ws) ∙ sym (nodes_last i ws) ∙ ap (λ (j : ℕ). nodes_text j ws) (sym n) in
-          let m = subst (Laid before (put_mid (18 * i) (length after - 18 * i) after rest)) w (laid_on before after (nodes_text i ws) f.laid (18 * i) (sym (length_nodes i ws)) rest (nodes_text 1 (tail (2 * i) ws)) l) in
-          record {
-            laid = m;
-            turn = omega arith;
-            long = laid_length before (put_mid (18 * i) (length after - 18 * i) after rest) (nodes_text (i + 1) ws) m (omega (arith, length_nodes (i + 1) ws));
-          }
-
-  pub written_long : length after ≡ length before
-  written_long = f.long
-
-pub ruleset writing = (none_written, all_written, node_there, room_there, one_written, written_long)
+pub ruleset writing = (none_written, all_written, one_written)

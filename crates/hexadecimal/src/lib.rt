@@ -2,29 +2,30 @@
 // a byte is no digit, so that a caller reads digits and tests them in one pass.
 #![tactic(auto)]
 
-ghost use Rattle.std.specs.Prelude.{◌≡◌, min, ◌*◌, ◌/◌, ◌%◌, ◌^◌, ◌<◌, ◌≤◌, length, take};
+ghost use Rattle.std.specs.Prelude.{◌≡◌, min, ◌*◌, ◌/◌, ◌%◌, ◌^◌, ◌<◌, ◌≤◌, length, take, is_some, unwrap_or, nat_lt};
 ghost use Rattle.expr.specs.Lent.{over};
 ghost use Rattle.expr.specs.Parts.{Laid};
 ghost use Rattle.hexadecimal.specs.Hex.{glyph_of, digit_of, digits, all_digits, number_of, places};
 ghost use Rattle.hexadecimal.specs.Promises.{all_zeros};
 ghost use Rattle.hexadecimal.specs.Nodes.{nodes_text, words_of};
 
-// What bytes stand for, and whether each of them is a digit.
+// What bytes stand for, and whether each of them is a digit. Not an Option: the value is promised also where a byte is no digit.
 #[derive(Clone, Copy)]
 pub struct Parsed {
     pub value: u64,
     pub good: bool,
 }
 
-// The digit of a byte; 16 where it is none.
-fn digit(b: u8) -> u64
-    ensures { result ≡ digit_of b }
+// The digit of a byte, if it is one.
+fn digit(b: u8) -> Option<u64>
+    ensures there { is_some result ≡ nat_lt (digit_of b) 16 }
+    ensures value { unwrap_or result 0 ≡ digit_of b % 16 }
 {
     let x = b as u64;
     let d = x % 16 + 9 * (x / 64);
     let low = (47 < x) & (x < 58);
     let high = (96 < x) & (x < 103);
-    if low | high { d } else { 16 }
+    if low | high { Some(d) } else { None }
 }
 
 // The byte of a digit.
@@ -43,33 +44,23 @@ fn glyph(d: u64) -> u8
 pub fn number(s: &[u8]) -> Parsed
     ensures { result ≡ record { value = number_of s.now % 2 ^ 64; good = all_digits s.now } }
 {
-    let mut value: u64 = 0;
+    let mut value = 0;
     let mut good = true;
-    let mut i = 0;
-    while i < s.len() {
-        let d = digit(s[i]);
-        value = (value % 0x1000_0000_0000_0000) * 16 + d % 16;
-        good = good & (d < 16);
-        i += 1;
+    for b in s {
+        let d = digit(*b);
+        value = (value % 0x1000_0000_0000_0000) * 16 + d.unwrap_or(0);
+        good = good & d.is_some();
     }
     Parsed { value, good }
-}
-
-// The smaller of two.
-fn least(a: usize, b: usize) -> usize
-    ensures { result ≡ min a b }
-{
-    if a < b { a } else { b }
 }
 
 // Puts the last k digits of n at the front of `out`, or as many of the last digits as it has places.
 pub fn put_digits(n: u64, k: usize, out: &mut [u8])
     ensures { out.new ≡ over (digits (min k (length out.old)) n) out.old }
 {
-    let mut i = least(k, out.len());
+    let count = k.min(out.len());
     let mut rest = n;
-    while 0 < i {
-        i -= 1;
+    for i in (0..count).rev() {
         out[i] = glyph(rest % 16);
         rest /= 16;
     }
@@ -93,7 +84,7 @@ pub fn put_number(n: u64, out: &mut [u8]) -> usize
     ensures count { result ≡ min (places n) (length out.old) }
     ensures written { out.new ≡ over (digits result n) out.old }
 {
-    let count = least(count_places(n), out.len());
+    let count = count_places(n).min(out.len());
     put_digits(n, count, out);
     count
 }
@@ -103,10 +94,8 @@ fn is_zeros(s: &[u8]) -> bool
     ensures { result ≡ all_zeros s.now }
 {
     let mut zeros = true;
-    let mut i = 0;
-    while i < s.len() {
-        zeros = zeros & (s[i] == b'0');
-        i += 1;
+    for b in s {
+        zeros = zeros & (*b == b'0');
     }
     zeros
 }
@@ -156,28 +145,15 @@ pub fn read_nodes(s: &[u8], out: &mut [u64]) -> bool
     ensures good { result ≡ all_digits (take (18 * min (length s.now / 18) (length out.old / 2)) s.now) }
     ensures written { out.new ≡ over (words_of (min (length s.now / 18) (length out.old / 2)) s.now) out.old }
 {
-    let count = least(s.len() / 18, out.len() / 2);
+    let count = (s.len() / 18).min(out.len() / 2);
     let mut good = true;
-    let mut i = 0;
-    while i < count {
+    for i in 0..count {
         let from = 18 * i;
         let to = 2 * i;
         let right = read_node(&s[from..], &mut out[to..]);
         good = good & right;
-        i += 1;
     }
     good
-}
-
-// Fills `out` with the digit 0.
-fn put_zeros(out: &mut [u8])
-    ensures { out.new ≡ digits (length out.old) 0 }
-{
-    let mut i = 0;
-    while i < out.len() {
-        out[i] = b'0';
-        i += 1;
-    }
 }
 
 // Fills the 8 places of `out` with the last 8 digits of n. Most operands are small, so most halves are 0: these are written without working out
@@ -187,7 +163,7 @@ fn put_half(n: u64, out: &mut [u8])
     ensures { out.new ≡ digits 8 n }
 {
     if n == 0 {
-        put_zeros(out);
+        out.fill(b'0');
     } else {
         put_digits(n, 8, out);
     }
@@ -208,12 +184,10 @@ fn put_node(words: &[u64], out: &mut [u8])
 pub fn put_nodes(words: &[u64], out: &mut [u8])
     ensures { out.new ≡ over (nodes_text (min (length words.now / 2) (length out.old / 18)) words.now) out.old }
 {
-    let count = least(words.len() / 2, out.len() / 18);
-    let mut i = 0;
-    while i < count {
+    let count = (words.len() / 2).min(out.len() / 18);
+    for i in 0..count {
         let from = 2 * i;
         let to = 18 * i;
         put_node(&words[from..], &mut out[to..]);
-        i += 1;
     }
 }

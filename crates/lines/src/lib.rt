@@ -6,7 +6,7 @@ ghost use Rattle.std.specs.Prelude.{◌≡◌, min, length, take};
 ghost use Rattle.expr.specs.Lent.{over};
 ghost use Rattle.lines.specs.Lines.{up_to, has_end, used_of, kept};
 
-// How many bytes of a chunk were read, how many of its line are kept, and whether the line has ended.
+// How many bytes of a chunk were read, how many of its line are kept, and whether the line has ended; the two numbers are promised in either case.
 #[derive(Clone, Copy)]
 pub struct Taken {
     pub used: usize,
@@ -14,46 +14,11 @@ pub struct Taken {
     pub ended: bool,
 }
 
-// Whether a 0a is among the bytes. It looks at all of them, so that the compiler does so in one step where their count is fixed.
-fn any_end(block: &[u8]) -> bool
-    ensures { result ≡ has_end block.now }
-{
-    let mut any = false;
-    let mut k = 0;
-    while k < block.len() {
-        any = any | (block[k] == 10);
-        k += 1;
-    }
-    any
-}
-
-// How many bytes stand before the first 0a; all of them where there is none. Most of a chunk has none: it is skipped in blocks of 16 bytes.
+// How many bytes stand before the first 0a; all of them where there is none.
 pub fn end_of(chunk: &[u8]) -> usize
     ensures { result ≡ length (up_to chunk.now) }
 {
-    let mut at = 0;
-    while 16 <= chunk.len() - at {
-        if any_end(&chunk[at..at + 16]) {
-            break;
-        }
-        at += 16;
-    }
-    while at < chunk.len() {
-        if chunk[at] == 10 {
-            return at;
-        }
-        at += 1;
-    }
-    at
-}
-
-fn least(a: usize, b: usize) -> usize
-    ensures { result ≡ min a b }
-{
-    if a < b {
-        return a;
-    }
-    b
+    memchr::memchr(b'\n', chunk).unwrap_or(chunk.len())
 }
 
 // Reads a chunk up to its first 0a: keeps the bytes before it in `line`, behind the `have` that are kept there. A `have` past the end of `line`
@@ -66,24 +31,14 @@ pub fn keep(chunk: &[u8], line: &mut [u8], have: usize) -> Taken
 {
     let size = chunk.len();
     let end = end_of(chunk);
-    let first = least(have, line.len());
+    let first = have.min(line.len());
     let room = line.len() - first;
-    let count = least(end, room);
-    let mut i = 0;
-    while i < count {
-        line[first + i] = chunk[i];
-        i += 1;
-    }
-    if end < size {
-        return Taken {
-            used: end + 1,
-            have: first + count,
-            ended: true,
-        };
-    }
+    let count = end.min(room);
+    line[first..first + count].copy_from_slice(&chunk[..count]);
+    let ended = end < size;
     Taken {
-        used: end,
+        used: if ended { end + 1 } else { end },
         have: first + count,
-        ended: false,
+        ended,
     }
 }

@@ -5,7 +5,8 @@ use Rattle.arith.specs.Arith.{sign_extended}
 use Rattle.arith.specs.Bv.{bvneg}
 use Rattle.expr.specs.Refusals.{carrying}
 use Rattle.expr.specs.Outcome.{Outcome, refused, accepted, mapped, ◌and_then◌}
-use Rattle.expr.specs.Expr.{Constant, Variable, Expr, leaf, unary, binary, encode}
+use Rattle.expr.specs.Expr.{Expr, leaf, unary, binary, encode}
+use Rattle.expr.specs.declared.kind.Leaf.TheVariants.{Constant, Variable}
 use Rattle.expr.specs.Parse.{parse}
 use Rattle.width.specs.Width.{checked_width_of}
 use Rattle.width.specs.Checked.{checked}

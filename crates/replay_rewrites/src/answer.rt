@@ -1,109 +1,57 @@
 // The answer to a request, by the call that it names.
 use crate::calls;
-use check::same;
-use requests::output::no_request;
-use requests::text;
+use requests::output::Output;
 use requests::text::MOST_WORDS;
+use requests::{lent, text};
 
 // No call needs as many bytes for a path.
 const MOST_PATH: usize = 100;
 
+pub(crate) fn answer(line: &[u8], out: &mut Output<'_, impl Print>) -> Option<()> {
+    let (name, lists) = text::to_space(line);
+    let (numbers, words) = text::first_list(lists)?;
+    let mut number_room = [0u32; 4];
+    let mut word_room = [0u64; MOST_WORDS];
+    let numbers = text::numbers_in(numbers, &mut number_room)?;
+    let words = text::numbers_in(words, &mut word_room)?;
+    match (name, numbers) {
+        (b"local", [width, size]) => local(words, *width, *size, 1, out),
+        (b"local_times", [width, size, count]) => local(words, *width, *size, *count, out),
+        (b"site", [width, size, bytes]) => site(words, *width, *size, *bytes, 1, out),
+        (b"site_times", [width, size, bytes, count]) => {
+            site(words, *width, *size, *bytes, *count, out)
+        }
+        _ => None,
+    }
+}
+
 // A local rewrite that is lent so many words.
 fn local(
-    rt: &impl Print,
-    out: &mut [u8],
-    have: usize,
     words: &[u64],
     width: u32,
     size: u32,
-    times: u32,
-) -> usize {
-    let most = size as usize;
-    if MOST_WORDS < most {
-        return no_request(rt, out, have);
-    }
+    count: u32,
+    out: &mut Output<'_, impl Print>,
+) -> Option<()> {
     let mut room = [0u64; MOST_WORDS];
-    calls::put_local(rt, out, have, words, width, times, &mut room[0..most])
+    let places = lent::lend(&mut room, size)?;
+    calls::put_local(words, width, count, places, out);
+    Some(())
 }
 
 // A first site that is lent so many words, and so many bytes for its path.
 fn site(
-    rt: &impl Print,
-    out: &mut [u8],
-    have: usize,
     words: &[u64],
     width: u32,
     size: u32,
     bytes: u32,
-    times: u32,
-) -> usize {
-    let most = size as usize;
-    let longest = bytes as usize;
-    if MOST_WORDS < most {
-        return no_request(rt, out, have);
-    }
-    if MOST_PATH < longest {
-        return no_request(rt, out, have);
-    }
+    count: u32,
+    out: &mut Output<'_, impl Print>,
+) -> Option<()> {
     let mut room = [0u64; MOST_WORDS];
     let mut way = [0u8; MOST_PATH];
-    calls::put_site(
-        rt,
-        out,
-        have,
-        words,
-        width,
-        times,
-        &mut way[0..longest],
-        &mut room[0..most],
-    )
-}
-
-// The text of the numbers before the words.
-fn of_words(
-    rt: &impl Print,
-    out: &mut [u8],
-    have: usize,
-    name: &[u8],
-    list: &[u8],
-    words: &[u64],
-) -> usize {
-    let mut n = [0u32; 4];
-    let listed = text::u32s_in(list, &mut n);
-    if !listed.good {
-        return no_request(rt, out, have);
-    }
-    let count = listed.count;
-    if same(name, b"local") && count == 2 {
-        return local(rt, out, have, words, n[0], n[1], 1);
-    }
-    if same(name, b"local_times") && count == 3 {
-        return local(rt, out, have, words, n[0], n[1], n[2]);
-    }
-    if same(name, b"site") && count == 3 {
-        return site(rt, out, have, words, n[0], n[1], n[2], 1);
-    }
-    if same(name, b"site_times") && count == 4 {
-        return site(rt, out, have, words, n[0], n[1], n[2], n[3]);
-    }
-    no_request(rt, out, have)
-}
-
-pub(crate) fn put_answer(rt: &impl Print, out: &mut [u8], have: usize, line: &[u8]) -> usize {
-    let end = text::find(line, 0, b' ');
-    let name = &line[0..end];
-    let lists = &line[end..];
-    let split = text::first_list(lists);
-    if !split.more {
-        return no_request(rt, out, have);
-    }
-    let first = split.end;
-    let next = split.next;
-    let mut words = [0u64; MOST_WORDS];
-    let listed = text::words_in(&lists[next..], &mut words);
-    if !listed.good {
-        return no_request(rt, out, have);
-    }
-    let n = listed.count;
-    of_words(rt, out, have, name, &lists[0..first], &words[0..n])
+    let places = lent::lend(&mut room, size)?;
+    let path = lent::lend(&mut way, bytes)?;
+    calls::put_site(words, width, count, path, places, out);
+    Some(())
 }

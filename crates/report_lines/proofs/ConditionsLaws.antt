@@ -2,7 +2,7 @@
 use mathlib.Core.Path.{◌≡◌, refl, sym, ap, ap₂, ◌∙◌}
 use mathlib.Core.Bool.{Bool}
 use mathlib.Core.List.{List, [], ◌∷◌, ◌++◌, append_assoc, append-nil}
-use Prim.Native.Nat.{ℕ, zero, suc, ◌+◌, ◌≤◌, ◌<◌, max}
+use Prim.Native.Nat.{ℕ, zero, suc, ◌+◌, ◌*◌, ◌/◌, ◌≤◌, ◌<◌, max}
 use native.Mathlib.Nat.{not-suc-le-zero, le_of_suc-le-suc}
 use native.Mathlib.Omega.{arith}
 use mir.Syntax.{w64}
@@ -12,7 +12,12 @@ use lib.Dec.{T, leb→le}
 use lib.ListN.{length, drop, get_or}
 use borrow.Author.Tests.{ne_eqb, eq-eqb}
 use Rattle.std.specs.Prelude.{if◌then◌else◌}
-use Rattle.expr.specs.Expr.{Constant, Variable, Unary, Not, Neg, Shr, ZExt, SExt, Trunc, Binary, Add, Mul, And, Or, Xor, Concat, Expr, leaf, unary, binary, unary_number, unary_operand, binary_number, encode}
+use Rattle.expr.specs.Expr.{Expr, leaf, unary, binary, unary_number, unary_operand, binary_number, encode}
+use Rattle.expr.specs.declared.kind.Leaf.TheVariants.{Constant, Variable}
+use Rattle.expr.specs.declared.kind.Unary.{Unary}
+use Rattle.expr.specs.declared.kind.Unary.TheVariants.{Not, Neg, Shr, ZExt, SExt, Trunc}
+use Rattle.expr.specs.declared.kind.Binary.{Binary}
+use Rattle.expr.specs.declared.kind.Binary.TheVariants.{Add, Mul, And, Or, Xor, Concat}
 use Rattle.expr.specs.Parse.{operand_ok, operands_ok}
 use Rattle.expr.specs.Front.{Exactly, Whole, tree_at}
 use Rattle.report_lines.specs.Report.{conditions_of}
@@ -35,13 +40,10 @@ module _ (found k o : ℕ) where
     pub own_fits : own_conditions k o ≤ 4294967296 → Fits w64 (o + 1)
     own_fits s = omega (arith, own)
 
-    pub own_lower : o < found → found ≡ max found (own_conditions k o)
-    own_lower m = omega (arith, own)
+    pub own_higher : (r : ℕ) → r ≡ max found (o + 1) → r ≡ max found (own_conditions k o)
+    own_higher r e = omega (arith, own)
 
-    pub own_higher : found ≤ o → o + 1 ≡ max found (own_conditions k o)
-    own_higher m = omega (arith, own)
-
-pub ruleset one_node = (not_variable, own_fits, own_lower, own_higher)
+pub ruleset one_node = (not_variable, own_fits, own_higher)
 
 -- ---- the loop
 
@@ -60,35 +62,31 @@ highest_end (k ∷ []) zero h = refl
 highest_end (k ∷ o ∷ ws) zero h = absurd (omega arith)
 highest_end (k ∷ ws) (suc i) h = highest_end ws i (le_of_suc-le-suc h)
 
--- the nodes before place i are counted
+-- the first i nodes are counted
 pub record Finding (ws : List ℕ) (found i : ℕ) : Type 0 where
-  pub is : max found (highest (drop i ws)) ≡ highest ws
-  pub turn : i ≤ length ws
+  pub is : max found (highest (drop (2 * i) ws)) ≡ highest ws
 
-module _ (ws : List ℕ) (small : highest ws ≤ 4294967296) (short : length ws ≤ 1024) where
+module _ (ws : List ℕ) (small : highest ws ≤ 4294967296) where
   pub none_found : Finding ws 0 0
-  none_found = record { is = let e : max 0 (highest ws) ≡ highest ws = omega arith in e; turn = omega arith }
+  none_found = record { is = let e : max 0 (highest ws) ≡ highest ws = omega arith in e }
 
   module _ (found i : ℕ) (f : Finding ws found i) where
-    pub place_fits : Fits w64 (i + 1)
-    place_fits = omega (arith, f.turn)
-
-    module _ (l : i + 1 < length ws) where
-      here : highest (drop i ws) ≡ max (own_conditions (get_or ws i 0) (get_or ws (i + 1) 0)) (highest (drop (i + 2) ws))
+    module _ (l : i < length ws / 2) where
+      here : highest (drop (2 * i) ws) ≡ max (own_conditions (get_or ws (2 * i) 0) (get_or ws (2 * i + 1) 0)) (highest (drop (2 * (i + 1)) ws))
       here =
-          highest_from ws i (omega arith)
-          ∙ ap₂ (λ (a b : ℕ). max (own_conditions (get_or ws i 0) (get_or ws a 0)) (highest (drop b ws))) (let e : suc i ≡ i + 1 = omega arith in e) (let e : suc (suc i) ≡ i + 2 = omega arith in e)
+          highest_from ws (2 * i) (omega arith)
+          ∙ ap₂ (λ (a b : ℕ). max (own_conditions (get_or ws (2 * i) 0) (get_or ws a 0)) (highest (drop b ws))) (let e : suc (2 * i) ≡ 2 * i + 1 = omega arith in e) (let e : suc (suc (2 * i)) ≡ 2 * (i + 1) = omega arith in e)
 
-      pub own_small : own_conditions (get_or ws i 0) (get_or ws (i + 1) 0) ≤ 4294967296
+      pub own_small : own_conditions (get_or ws (2 * i) 0) (get_or ws (2 * i + 1) 0) ≤ 4294967296
       own_small = omega (arith, f.is, here)
 
-      pub one_found : (r : ℕ) → r ≡ max found (own_conditions (get_or ws i 0) (get_or ws (i + 1) 0)) → Finding ws r (i + 2)
-      one_found r e = record { is = omega (arith, f.is, here); turn = omega arith }
+      pub one_found : (r : ℕ) → r ≡ max found (own_conditions (get_or ws (2 * i) 0) (get_or ws (2 * i + 1) 0)) → Finding ws r (i + 1)
+      one_found r e = record { is = omega (arith, f.is, here) }
 
-    pub all_found : length ws ≤ i + 1 → found ≡ highest ws
-    all_found l = omega (arith, f.is, highest_end ws i (omega arith))
+    pub all_found : length ws / 2 ≤ i → found ≡ highest ws
+    all_found l = omega (arith, f.is, highest_end ws (2 * i) (omega arith))
 
-pub ruleset finding = (none_found, place_fits, own_small, one_found, all_found)
+pub ruleset finding = (none_found, own_small, one_found, all_found)
 
 -- ---- the tree
 

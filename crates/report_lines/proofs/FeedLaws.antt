@@ -10,7 +10,7 @@ use lib.ListN.{length, take, drop, length-append, length-drop, length-take}
 use lib.Seq.{take_at, length-take-le}
 use borrow.Author.Tests.{not-true, not-false}
 use borrow.Rule.Slice.PartMut.{put_mid}
-use Rattle.expr.specs.Parts.{tail, part, Laid}
+use Rattle.expr.specs.Parts.{tail, Laid}
 use Rattle.expr.specs.TailLaws.{tail_drop, length_tail}
 use Rattle.expr.specs.LentLaws.{laid_length, laid_on}
 use Rattle.lines.specs.Lines.{last_line, lines_from}
@@ -21,43 +21,34 @@ use Rattle.report_lines.specs.Report.{outcome_of, text_of, plus, totals_of, clos
 use Rattle.report_lines.specs.Steps.{rest_of, sound_totals, ready, Lent, Advances, FeedsIf, Feeds, FinishesIf, Finishes}
 use Rattle.report_lines.specs.ReportLaws.{rest_none, rest_full}
 use Rattle.report_lines.specs.StepsLaws.{IsReady, ready_open, no_step, step_on}
-use Rattle.report_lines.specs.Promises.{Printed, Turned, FeedsOn, FedOn, Fed, last_text, Finished}
+use Rattle.report_lines.specs.Promises.{Printed, Feedable, Turned, FeedsOn, FedOn, Fed, last_text, Finished}
 use Rattle.report_lines.proofs.ReadyLaws.{sound_open, SoundPlaces, places_open, places_shut}
 use Rattle.report_lines.proofs.TextLaws.{closing_most}
 use Rattle.report_lines.proofs.StepLaws.{rest_line, small, sound_next}
 
--- after some turns: what they have read and printed, and nothing has changed its length
-pub record Feeding (s : State) (line chunk words work before : List ℕ) (t : State) (line' words' work' after : List ℕ) (used put : ℕ) : Type 0 where
+-- after some turns: what they have read and printed
+pub record Feeding (s : State) (line chunk before : List ℕ) (t : State) (line' after : List ℕ) (used put : ℕ) : Type 0 where
   pub advances : Advances s line chunk used (take put after) t line'
   pub laid : Laid before after (take put after)
   pub put_most : put ≤ length before
   pub out_long : length after ≡ length before
-  pub words_long : length words' ≡ length words
-  pub work_long : length work' ≡ length work
 
-module _ (s : State) (line chunk words work before : List ℕ) (e : ready s (length line) (length words) (length work) (length before) ≡ true) where
-  is : IsReady s (length line) (length words) (length work) (length before)
-  is = ready_open s (length line) (length words) (length work) (length before) e
-
-  pub none_fed : Feeding s line chunk words work before s line words work before 0 0
+module _ (s : State) (line chunk before : List ℕ) (e : Feedable s line before) where
+  pub none_fed : Feeding s line chunk before s line before 0 0
   none_fed = record {
-    advances = no_step s line chunk (length words) (length work) (length before) is;
+    advances = no_step s line chunk 1024 4096 (length before) (record {
+      sound = e.sound;
+      have_most = e.have_most;
+      room = places_shut (length line) 1024 4096 (length before) (record { line_is = e.line_is; some_words = omega arith; some_work = omega arith; some_out = e.room });
+    });
     laid = record { is = refl };
     put_most = omega arith;
     out_long = refl;
-    words_long = refl;
-    work_long = refl;
   }
 
-  module _ (t : State) (line' words' work' after : List ℕ) (used put : ℕ) (f : Feeding s line chunk words work before t line' words' work' after used put) where
+  module _ (t : State) (line' after : List ℕ) (used put : ℕ) (f : Feeding s line chunk before t line' after used put) where
     pub line_long : length line' ≡ length line
     line_long = f.advances.line_length
-
-    pub words_same : length words' ≡ length words
-    words_same = f.words_long
-
-    pub work_same : length work' ≡ length work
-    work_same = f.work_long
 
     pub out_same : length after ≡ length before
     out_same = f.out_long
@@ -74,27 +65,21 @@ module _ (s : State) (line chunk words work before : List ℕ) (e : ready s (len
     before_last : (t.totals.lines ≡ 65535 → ⊥) → t.totals.lines < 65535
     before_last n = omega (arith, n, (sound_open t.totals f.advances.sound).some_lines)
 
-    on : used < length chunk → (t.totals.lines ≡ 65535 → ⊥) → 9400 ≤ length after - put → FeedsOn (record { used = used; put = put; state = t }) chunk line' (length words') (length work') after
-    on h n m =
-        let o = places_open (length line) (length words) (length work) (length before) is.room in
-        record {
-          turnable = record {
-            sound = f.advances.sound;
-            before_last = before_last n;
-            have_most = f.advances.have_most;
-            room = places_shut (length line') (length words') (length work') (length (tail put after)) (record {
-              line_is = omega (arith, line_long, o.line_is);
-              some_words = omega (arith, words_same, o.some_words);
-              some_work = omega (arith, work_same, o.some_work);
-              some_out = omega (arith, length_tail put after);
-            });
-            some = omega (arith, length_tail used chunk);
-          };
-          used_most = omega arith;
-          put_most = put_inside;
-        }
+    on : used < length chunk → (t.totals.lines ≡ 65535 → ⊥) → 9400 ≤ length after - put → FeedsOn (record { used = used; put = put; state = t }) chunk line' after
+    on h n m = record {
+      turnable = record {
+        sound = f.advances.sound;
+        before_last = before_last n;
+        have_most = f.advances.have_most;
+        line_is = line_long ∙ e.line_is;
+        room = omega (arith, length_tail put after);
+        some = omega (arith, length_tail used chunk);
+      };
+      used_most = omega arith;
+      put_most = put_inside;
+    }
 
-    module _ (line'' words'' work'' rest : List ℕ) (r : Step) (g : Turned t line' (tail used chunk) (tail put after) r line'' rest) where
+    module _ (line'' rest : List ℕ) (r : Step) (g : Turned t line' (tail used chunk) (tail put after) r line'' rest) where
       out : List ℕ
       out = put_mid put (length after - put) after rest
 
@@ -102,10 +87,9 @@ module _ (s : State) (line chunk words work before : List ℕ) (e : ready s (len
       unfolding out
       all_laid = laid_on before after (take put after) f.laid put (sym front_long) rest (take r.put rest) g.laid
 
-      one_fed : used < length chunk → 9400 ≤ length after - put → length words'' ≡ length words' → length work'' ≡ length work'
-          → Feeding s line chunk words work before r.state line'' words'' work'' (put_mid put (length after - put) after rest) (used + r.used) (put + r.put)
+      one_fed : used < length chunk → 9400 ≤ length after - put → Feeding s line chunk before r.state line'' (put_mid put (length after - put) after rest) (used + r.used) (put + r.put)
       unfolding out
-      one_fed h m a b =
+      one_fed h m =
           let o : length rest ≡ length (tail put after) =
           omega (arith, ap length g.laid.is, length-append (take r.put rest) (drop (length (take r.put rest)) (tail put after)), length-drop (length (take r.put rest)) (tail put after), length-take r.put rest, g.put_most, length_tail put after) in
           let n : length (take r.put rest) ≡ r.put = length-take-le r.put rest (omega (arith, g.put_most, length_tail put after)) in
@@ -117,15 +101,12 @@ module _ (s : State) (line chunk words work before : List ℕ) (e : ready s (len
             laid = subst (Laid before out) (sym w) all_laid;
             put_most = omega (arith, g.put_most, f.out_long);
             out_long = laid_length before out (take put after ++ take r.put rest) all_laid (omega (arith, g.put_most, f.out_long));
-            words_long = a ∙ f.words_long;
-            work_long = b ∙ f.work_long;
           }
 
 -- the same, where used, put and state are together in a step
-module _ (s : State) (line chunk words work before : List ℕ) (e : ready s (length line) (length words) (length work) (length before) ≡ true)
-    (at : Step) (line' words' work' after : List ℕ) (f : Feeding s line chunk words work before at.state line' words' work' after at.used at.put) where
-  pub feeds_on : at.used < length chunk → (at.state.totals.lines ≡ 65535 → ⊥) → 9400 ≤ length after - at.put → FeedsOn at chunk line' (length words') (length work') after
-  feeds_on = on s line chunk words work before e at.state line' words' work' after at.used at.put f
+module _ (s : State) (line chunk before : List ℕ) (e : Feedable s line before) (at : Step) (line' after : List ℕ) (f : Feeding s line chunk before at.state line' after at.used at.put) where
+  pub feeds_on : at.used < length chunk → (at.state.totals.lines ≡ 65535 → ⊥) → 9400 ≤ length after - at.put → FeedsOn at chunk line' after
+  feeds_on = on s line chunk before e at.state line' after at.used at.put f
 
   fed : (at.used < length chunk → at.state.totals.lines < 65535 → length before < at.put + 9400) → Fed s line chunk before at line' after
   fed g = record { advances = f.advances; laid = f.laid; put_most = f.put_most; stops = g }
@@ -139,17 +120,17 @@ module _ (s : State) (line chunk words work before : List ℕ) (e : ready s (len
   pub fed_all : length chunk ≤ at.used → Fed s line chunk before at line' after
   fed_all m = fed (λ h l. omega arith)
 
-  pub more_fed : (r : Step) (line'' words'' work'' out : List ℕ) → FedOn at chunk line' after r line'' out → at.used < length chunk → 9400 ≤ length after - at.put
-      → length words'' ≡ length words' → length work'' ≡ length work' → Feeding s line chunk words work before r.state line'' words'' work'' out r.used r.put
-  more_fed r line'' words'' work'' out g h m a b =
-      subst (λ (x : Step). Feeding s line chunk words work before x.state line'' words'' work'' out x.used x.put) (sym g.is)
-      (subst (λ (o : List ℕ). Feeding s line chunk words work before g.turn.state line'' words'' work'' o (at.used + g.turn.used) (at.put + g.turn.put)) (sym g.out_is)
-      (one_fed s line chunk words work before e at.state line' words' work' after at.used at.put f line'' words'' work'' g.rest g.turn g.turned h m a b))
+  pub more_fed : (r : Step) (line'' out : List ℕ) → FedOn at chunk line' after r line'' out → at.used < length chunk → 9400 ≤ length after - at.put
+      → Feeding s line chunk before r.state line'' out r.used r.put
+  more_fed r line'' out g h m =
+      subst (λ (x : Step). Feeding s line chunk before x.state line'' out x.used x.put) (sym g.is)
+      (subst (λ (o : List ℕ). Feeding s line chunk before g.turn.state line'' o (at.used + g.turn.used) (at.put + g.turn.put)) (sym g.out_is)
+      (one_fed s line chunk before e at.state line' after at.used at.put f line'' g.rest g.turn g.turned h m))
 
 pub fed_less : (at r : Step) (chunk line line' before after : List ℕ) → FedOn at chunk line before r line' after → at.used < length chunk → length chunk - r.used < length chunk - at.used
 fed_less at r chunk line line' before after g h = omega (arith, ap (λ (x : Step). x.used) g.is, g.turned.used_least)
 
-pub ruleset feeding = (none_fed, line_long, words_same, work_same, out_same, out_small, put_inside, feeds_on, fed_full, fed_room, fed_all, more_fed, fed_less)
+pub ruleset feeding = (none_fed, line_long, out_same, out_small, put_inside, feeds_on, fed_full, fed_room, fed_all, more_fed, fed_less)
 
 -- ---- `feed`
 
@@ -157,8 +138,24 @@ module _ (s : State) (line words work out : List ℕ) (b : Bool) (e : b ≡ read
   abbrev lent : Lent
   lent = record { line = line; words = words; work = work; out = out }
 
-  pub ready_yes : not b ≡ false → ready s (length line) (length words) (length work) (length out) ≡ true
+  ready_yes : not b ≡ false → ready s (length line) (length words) (length work) (length out) ≡ true
   ready_yes f = sym e ∙ not-false b f
+
+  module _ (f : not b ≡ false) where
+    opened : IsReady s (length line) (length words) (length work) (length out)
+    opened = ready_open s (length line) (length words) (length work) (length out) (ready_yes f)
+
+    room : SoundPlaces (length line) (length words) (length work) (length out)
+    room = places_open (length line) (length words) (length work) (length out) opened.room
+
+    pub feedable : Feedable s line out
+    feedable = record { sound = opened.sound; have_most = opened.have_most; line_is = room.line_is; room = room.some_out }
+
+    pub words_room : 1024 ≤ length words
+    words_room = room.some_words
+
+    pub work_room : 4096 ≤ length work
+    work_room = room.some_work
 
   pub not_fed : not b ≡ true → (chunk : List ℕ) → Feeds s chunk lent (record { used = 0; put = 0; state = s }) lent
   unfolding FeedsIf
@@ -180,7 +177,7 @@ module _ (s : State) (line words work out : List ℕ) (b : Bool) (e : b ≡ read
     is = subst (λ (c : Bool). FinishesIf c s lent r (record { line = line; words = words'; work = work'; out = out' })) (sym (ready_yes f)) (g.laid.is, g.count);
   }
 
-pub ruleset calls = (ready_yes, not_fed, feeds, not_finished, finishes)
+pub ruleset calls = (feedable, words_room, work_room, not_fed, feeds, not_finished, finishes)
 
 -- ---- `finish`
 
@@ -229,33 +226,15 @@ module _ (t : Totals) (line : List ℕ) (sound : sound_totals t ≡ true) (more 
 
 pub ruleset last_rules = (last_inside, last_sound, last_room, last_fits, last_count, last_laid, last_long)
 
-module _ (s : State) (line words work before : List ℕ) (e : ready s (length line) (length words) (length work) (length before) ≡ true) where
-  opened : IsReady s (length line) (length words) (length work) (length before)
-  opened = ready_open s (length line) (length words) (length work) (length before) e
-
-  room : SoundPlaces (length line) (length words) (length work) (length before)
-  room = places_open (length line) (length words) (length work) (length before) opened.room
-
-  pub finish_sound : sound_totals s.totals ≡ true
-  finish_sound = opened.sound
-
-  pub finish_have : s.have ≤ length line
-  finish_have = opened.have_most
-
-  pub finish_words : 1024 ≤ length words
-  finish_words = room.some_words
-
-  pub finish_work : 4096 ≤ length work
-  finish_work = room.some_work
-
-  pub finish_out : 9400 ≤ length before
-  finish_out = room.some_out
+module _ (s : State) (line before : List ℕ) (e : Feedable s line before) where
+  pub have_taken : s.have ≡ length (take s.have line)
+  have_taken = sym (length-take-le s.have line e.have_most)
 
   pub finish_closing : 53 ≤ length before
-  finish_closing = omega (arith, room.some_out)
+  finish_closing = omega (arith, e.room)
 
   pub finish_before : (s.totals.lines ≡ 65535 → ⊥) → s.totals.lines < 65535
-  finish_before n = omega (arith, n, (sound_open s.totals opened.sound).some_lines)
+  finish_before n = omega (arith, n, (sound_open s.totals e.sound).some_lines)
 
   module _ (r : ℕ) (after : List ℕ) where
     finished : (text : List ℕ) → text ≡ rest_of s.totals (take s.have line) [] → Laid before after text → r ≡ length text → Finished s line before r after
@@ -267,15 +246,13 @@ module _ (s : State) (line words work before : List ℕ) (e : ready s (length li
     pub lines_full : s.totals.lines ≡ 65535 → Laid before after (closing s.totals) → r ≡ length (closing s.totals) → Finished s line before r after
     lines_full h = finished (closing s.totals) (sym (rest_full s.totals (take s.have line) [] h))
 
-    pub last_left : (s.have ≡ 0 → ⊥) → (s.totals.lines ≡ 65535 → ⊥) → Laid before after (last_text s.totals (part 0 s.have line)) → r ≡ length (last_text s.totals (part 0 s.have line)) → Finished s line before r after
+    pub last_left : (s.have ≡ 0 → ⊥) → (s.totals.lines ≡ 65535 → ⊥) → Laid before after (last_text s.totals (take s.have line)) → r ≡ length (last_text s.totals (take s.have line)) → Finished s line before r after
     unfolding last_text
     last_left h n =
-        let l = part 0 s.have line in
-        let part-is : l ≡ take s.have line = ap (λ (i : ℕ). take i line) (let y : s.have - 0 ≡ s.have = omega arith in y) in
-        let some : 0 < length l = omega (arith, ap length part-is, length-take-le s.have line opened.have_most, h) in
+        let l = take s.have line in
+        let some : 0 < length l = omega (arith, length-take-le s.have line e.have_most, h) in
         finished (last_text s.totals l)
         (ap (λ (x : List ℕ). text_of (s.totals.lines + 1) (outcome_of l) ++ x) (sym (rest_none (plus s.totals (totals_of (outcome_of l)))))
-        ∙ sym (rest_line s.totals l [] l [] (finish_before n) (last_line_lem l some))
-        ∙ ap (λ (x : List ℕ). rest_of s.totals x []) part-is)
+        ∙ sym (rest_line s.totals l [] l [] (finish_before n) (last_line_lem l some)))
 
-pub ruleset finishing = (finish_sound, finish_have, finish_words, finish_work, finish_out, finish_closing, finish_before, none_left, lines_full, last_left)
+pub ruleset finishing = (have_taken, finish_closing, finish_before, none_left, lines_full, last_left)

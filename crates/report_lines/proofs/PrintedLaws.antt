@@ -1,40 +1,39 @@
 -- One line's text and the sums with it. Assumes nothing.
 use mathlib.Core.Path.{◌≡◌, refl, sym, ap, ap₂, subst, ◌∙◌}
-use mathlib.Core.Bool.{Bool, true, false, ◌&&◌}
+use mathlib.Core.Bool.{true}
 use mathlib.Core.List.{List, [], ◌∷◌, ◌++◌, append-nil}
-use Prim.Native.Nat.{ℕ, ◌+◌, ◌-◌, ◌*◌, ◌/◌, ◌%◌, ◌^◌, ◌≤◌, ◌<◌, min}
+use Prim.Native.Nat.{ℕ, ◌+◌, ◌-◌, ◌*◌, ◌/◌, ◌≤◌, ◌<◌}
 use native.Mathlib.Omega.{arith}
 use mir.Syntax.{w64}
 use mir.Val.{Fits}
-use lib.ListN.{length, take, drop, set, length-append, length-take}
-use borrow.Author.Tests.{eq-eqb, ne_eqb}
+use lib.Seq.{length-take-le}
+use lib.ListN.{length, take, length-append, length-take}
 use borrow.Rule.Slice.PartMut.{put_mid}
-use Rattle.std.specs.Prelude.{if◌then◌else◌}
+use Rattle.std.specs.Prelude.{Option, None, Some, MatchOption, Result, Ok, Err}
+use Rattle.std.specs.Result.{IsOk, is_ok, result_ok}
 use Rattle.expr.specs.declared.refusal.Reason.{Reason}
 use Rattle.expr.specs.declared.refusal.Refusal.{Refusal}
-use Rattle.expr.specs.Refusals.{refusal, reason_of}
-use Rattle.expr.specs.Outcome.{Outcome, refused, accepted, ◌and_then◌}
+use Rattle.expr.specs.Refusals.{reason_of}
+use Rattle.expr.specs.Outcome.{Outcome, refused, accepted, mapped, ◌and_then◌}
 use Rattle.expr.specs.Expr.{nodes}
-use Rattle.expr.specs.Parts.{tail, part, Laid}
+use Rattle.expr.specs.Parts.{tail, Laid}
 use Rattle.expr.specs.Front.{Whole, tree_at}
 use Rattle.expr.specs.PartLaws.{exact_length}
 use Rattle.expr.specs.Lent.{over}
 use Rattle.expr.specs.LentLaws.{laid_on}
-use Rattle.atom_simplifier.specs.declared.chain.ChainAnswer.{ChainAnswer}
-use Rattle.atom_simplifier.specs.declared.chain.ChainAnswer.TheVariants.{End, Refused}
-use Rattle.atom_simplifier.specs.Answers.{chain_outcome}
-use Rattle.hexadecimal.specs.declared.Parsed.{Parsed}
-use Rattle.hexadecimal.specs.Hex.{digits, all_digits, number_of}
-use Rattle.hexadecimal.specs.Nodes.{nodes_text, words_of}
-use Rattle.frame.specs.Frame.{frame, nodes_in, line_words}
+use Rattle.atom_simplifier.specs.declared.chain.ChainEnd.{ChainEnd}
+use Rattle.expr.specs.Answers.{outcome}
+use Rattle.atom_simplifier.specs.Answers.{end_numbers}
+use Rattle.hexadecimal.specs.Hex.{digits}
+use Rattle.hexadecimal.specs.Nodes.{nodes_text}
+use Rattle.frame.specs.Frame.{frame}
 use Rattle.frame.specs.FrameLaws.{length_frame}
-use Rattle.frame.specs.Promises.{Decodes}
-use Rattle.frame.proofs.ReadLaws.{none_decoded, width_there, count_fits, width_fits, bad_digit, decoded}
-use Rattle.frame.proofs.PutLaws.{frame_long, frame_laid}
+use Rattle.frame.specs.Answers.{line_outcome, ReadsLine, frame_bytes, PutsFrame}
+use Rattle.frame.specs.declared.Frame.{Frame}
 use Rattle.report_lines.specs.declared.Totals.{Totals}
 use Rattle.report_lines.specs.Report.{Done, chained, outcome_of, fields, row_of, text_of}
 use Rattle.report_lines.specs.Steps.{sound_totals}
-use Rattle.report_lines.specs.Promises.{highest, done_by, LineRead, Reaches, Ran, Printed}
+use Rattle.report_lines.specs.Promises.{highest, done_by, Reaches, Ran, Printed}
 use Rattle.report_lines.proofs.ReadyLaws.{sound_open}
 use Rattle.report_lines.proofs.ConditionsLaws.{highest_tree, highest_small}
 
@@ -44,17 +43,18 @@ module _ (t : Totals) (sound : sound_totals t ≡ true) (more : t.lines < 65535)
 
 -- ---- a refused line
 
-module _ (t : Totals) (number put : ℕ) (before after : List ℕ) where
-  pub refused_printed : Laid before after (fields ((t.lines + 1) ∷ number ∷ 0 ∷ 0 ∷ 0 ∷ 0 ∷ [])) → put ≡ length (fields ((t.lines + 1) ∷ number ∷ 0 ∷ 0 ∷ 0 ∷ 0 ∷ []))
-      → Printed (refused (refusal number)) t before after put (record { lines = t.lines + 1; refused = t.refused + 1; before = t.before; after = t.after })
+module _ (t : Totals) (r q : Reason) (put : ℕ) (before after : List ℕ) where
+  pub refused_printed : r ≡ q → Laid before after (fields ((t.lines + 1) ∷ r.number ∷ 0 ∷ 0 ∷ 0 ∷ 0 ∷ [])) → put ≡ length (fields ((t.lines + 1) ∷ r.number ∷ 0 ∷ 0 ∷ 0 ∷ 0 ∷ []))
+      → Printed (refused q) t before after put (record { lines = t.lines + 1; refused = t.refused + 1; before = t.before; after = t.after })
   unfolding text_of
-  refused_printed l e =
-      let row = fields ((t.lines + 1) ∷ number ∷ 0 ∷ 0 ∷ 0 ∷ 0 ∷ []) in
-      record {
+  refused_printed same l e =
+      let row = fields ((t.lines + 1) ∷ r.number ∷ 0 ∷ 0 ∷ 0 ∷ 0 ∷ []) in
+      subst (λ (p : Reason). Printed (refused p) t before after put (record { lines = t.lines + 1; refused = t.refused + 1; before = t.before; after = t.after })) same
+      (record {
         text = subst (Laid before after) (sym (append-nil row)) l;
         put_is = e ∙ ap length (sym (append-nil row));
         totals_is = ap₂ (λ (b a : ℕ). record { lines = t.lines + 1; refused = t.refused + 1; before = b; after = a }) (let z : t.before ≡ t.before + 0 = omega arith in z) (let z : t.after ≡ t.after + 0 = omega arith in z);
-      }
+      })
 
 pub ruleset refusing = (refused_fits, refused_printed)
 
@@ -102,112 +102,98 @@ pub ruleset accepting = (highest_small, before_fits, after_fits, done_printed)
 
 -- ---- either
 
--- the number of a refusal is all that is printed of it
-same_number : (t : Totals) (r : Reason) (before after : List ℕ) (put : ℕ) (t' : Totals) → Printed (refused (refusal r.number)) t before after put t' → Printed (refused r) t before after put t'
-unfolding text_of
-same_number t r before after put t' p = record { text = p.text; put_is = p.put_is; totals_is = p.totals_is }
-
-module _ (w : ℕ) (ws work : List ℕ) (x : ChainAnswer) (o : Outcome Done) (g : Ran o w ws work (chain_outcome x)) where
-  refused_ran : (r : Refusal) → x ≡ Refused r → o ≡ refused (reason_of r)
+module _ (w : ℕ) (ws work : List ℕ) (x : Result ChainEnd Refusal) (o : Outcome Done) (g : Ran o w ws work (mapped end_numbers (outcome x))) where
+  refused_ran : (r : Refusal) → x ≡ Err r → o ≡ refused (reason_of r)
   unfolding Reaches
   refused_ran r e = go o g.reaches
     where
-      go : (a : Outcome Done) → Reaches a w ws work (chain_outcome x) → a ≡ refused (reason_of r)
+      go : (a : Outcome Done) → Reaches a w ws work (mapped end_numbers (outcome x)) → a ≡ refused (reason_of r)
       go (refused q) h = let z : q ≡ reason_of r = cc in ap (λ (y : Reason). refused y) z
       go (accepted d) (n, k, h, f, a, b, c, l) = absurd (let z : ◌≡◌ {A = ℕ} 0 1 = cc in omega arith)
 
-  pub chain_down : (r : Refusal) (q : Reason) (t t' : Totals) (before after : List ℕ) (put : ℕ) → x ≡ Refused r → q ≡ reason_of r
-      → Printed (refused (refusal q.number)) t before after put t' → Printed o t before after put t'
-  chain_down r q t t' before after put e f p =
-      subst (λ (a : Outcome Done). Printed a t before after put t') (ap (λ (y : Reason). refused y) f ∙ sym (refused_ran r e)) (same_number t q before after put t' p)
+  pub chain_down : (r : Refusal) (t t' : Totals) (before after : List ℕ) (put : ℕ) → x ≡ Err r → Printed (refused (reason_of r)) t before after put t' → Printed o t before after put t'
+  chain_down r t t' before after put e p = subst (λ (a : Outcome Done). Printed a t before after put t') (sym (refused_ran r e)) p
 
-  module _ (n k : ℕ) (e : x ≡ End n k) where
+  module _ (end : ChainEnd) (e : x ≡ Ok end) where
     record Ended : Type 0 where
-      is : o ≡ accepted (done_by w ws (part 0 (2 * n) work) k)
+      is : o ≡ accepted (done_by w ws (take (2 * end.nodes) work) end.rewrites)
       whole : Whole ws
-      end_whole : Whole (part 0 (2 * n) work)
-      inside : 2 * n ≤ length work
-      few : 2 * n ≤ 1024
+      end_whole : Whole (take (2 * end.nodes) work)
+      inside : 2 * end.nodes ≤ length work
+      few : 2 * end.nodes ≤ 1024
 
     ended : Ended
     unfolding Reaches
     ended = go o refl g.reaches
       where
-        go : (a : Outcome Done) → o ≡ a → Reaches a w ws work (chain_outcome x) → Ended
+        go : (a : Outcome Done) → o ≡ a → Reaches a w ws work (mapped end_numbers (outcome x)) → Ended
         go (refused q) i h = absurd (let z : ◌≡◌ {A = ℕ} 0 1 = cc in omega arith)
         go (accepted d) i (m, j, h, f, a, b, c, l) =
-            let both : ◌≡◌ {A = ℕ × ℕ} (m, j) (n, k) = cc in
-            let mn : m ≡ n = ap (λ (v : ℕ × ℕ). v.0) both in
-            let jk : j ≡ k = ap (λ (v : ℕ × ℕ). v.1) both in
+            let both : ◌≡◌ {A = ℕ × ℕ} (m, j) (end_numbers end) = cc in
+            let mn : m ≡ end.nodes = ap (λ (v : ℕ × ℕ). v.0) both in
+            let jk : j ≡ end.rewrites = ap (λ (v : ℕ × ℕ). v.1) both in
             record {
-              is = i ∙ ap (λ (y : Done). accepted y) (f ∙ ap₂ (λ (u v : ℕ). done_by w ws (part 0 (2 * u) work) v) mn jk);
+              is = i ∙ ap (λ (y : Done). accepted y) (f ∙ ap₂ (λ (u v : ℕ). done_by w ws (take (2 * u) work) v) mn jk);
               whole = a;
-              end_whole = subst (λ (u : ℕ). Whole (part 0 (2 * u) work)) mn b;
+              end_whole = subst (λ (u : ℕ). Whole (take (2 * u) work)) mn b;
               inside = omega arith;
               few = omega arith;
             }
 
-    pub end_fits : Fits w64 (2 * n)
+    pub end_fits : Fits w64 (2 * end.nodes)
     end_fits = omega (arith, ended.few)
 
-    pub end_inside : 2 * n ≤ length work
+    pub end_inside : 2 * end.nodes ≤ length work
     end_inside = ended.inside
+
+    pub end_taken : 2 * end.nodes ≡ length (take (2 * end.nodes) work)
+    end_taken = sym (length-take-le (2 * end.nodes) work ended.inside)
 
     pub tree_whole : Whole ws
     tree_whole = ended.whole
 
-    pub end_whole : Whole (part 0 (2 * n) work)
+    pub end_whole : Whole (take (2 * end.nodes) work)
     end_whole = ended.end_whole
 
-    pub end_short : length (part 0 (2 * n) work) ≤ 1024
-    end_short = omega (arith, length-take (2 * n - 0) (drop 0 work), ended.few)
+    pub end_short : length (take (2 * end.nodes) work) ≤ 1024
+    end_short = omega (arith, length-take (2 * end.nodes) work, ended.few)
 
-    pub chain_done : (t t' : Totals) (before after : List ℕ) (put : ℕ) → Printed (accepted (done_by w ws (part 0 (2 * n) work) k)) t before after put t' → Printed o t before after put t'
+    pub chain_done : (t t' : Totals) (before after : List ℕ) (put : ℕ) → Printed (accepted (done_by w ws (take (2 * end.nodes) work) end.rewrites)) t before after put t' → Printed o t before after put t'
     chain_done t t' before after put p = subst (λ (a : Outcome Done). Printed a t before after put t') (sym ended.is) p
 
-pub ruleset chaining = (chain_down, end_fits, end_inside, tree_whole, end_whole, end_short, chain_done)
+pub ruleset chaining = (chain_down, end_fits, end_inside, end_taken, tree_whole, end_whole, end_short, chain_done)
 
 -- ---- a line
 
--- the digits of a line are read as the frame's crate reads them
-read_as : (line words : List ℕ) (width count : ℕ) → Decodes line words (record { width = width; count = count }) → LineRead (line_words line) words width count
-read_as line words width count d = record { is = d.is; few = d.few }
-
-module _ (line : List ℕ) (n : ℕ) (e : n ≡ nodes_in (length line)) where
-  pub none_read : n ≡ 0 → (words : List ℕ) → LineRead (line_words line) words 0 0
-  none_read z words = read_as line words 0 0 (none_decoded line n e z words)
-
-  module _ (some : n ≡ 0 → ⊥) (width : Parsed) (f : width ≡ record { value = number_of (part 0 2 line) % 2 ^ 64; good = all_digits (part 0 2 line) })
-      (before : List ℕ) (room : 1024 ≤ length before) (good : Bool) (g : good ≡ all_digits (take (18 * min (length (tail 2 line) / 18) (length before / 2)) (tail 2 line))) where
-    pub bad_read : (width.good && good) ≡ false → (words : List ℕ) → LineRead (line_words line) words 0 0
-    bad_read h words = read_as line words 0 0 (bad_digit line n e some width f before room good g h words)
-
-    pub line_read : (width.good && good) ≡ true → (words : List ℕ) → words ≡ over (words_of (min (length (tail 2 line) / 18) (length before / 2)) (tail 2 line)) before
-        → LineRead (line_words line) words width.value (2 * n)
-    line_read h words l = read_as line words width.value (2 * n) (decoded line n e some width f before room good g h words l)
-
-pub ruleset decoding = (width_there, count_fits, width_fits, none_read, bad_read, line_read)
-
-module _ (line words : List ℕ) (width count : ℕ) (g : LineRead (line_words line) words width count) where
-  pub line_down : (t t' : Totals) (before after : List ℕ) (put : ℕ) → count ≡ 0 → Printed (refused (refusal 14)) t before after put t' → Printed (outcome_of line) t before after put t'
+module _ (line before words : List ℕ) (r : Result Frame Refusal) (d : ReadsLine line before words r) (room : 1024 ≤ length before) where
+  -- what the line stands for is what was read
+  line_is : (p : Option Frame) → result_ok r ≡ p → outcome_of line ≡ (line_outcome p words and_then chained)
   unfolding outcome_of
-  line_down t t' before after put e p =
-      subst (λ (a : Outcome Done). Printed a t before after put t')
-      (ap (λ o. o and_then chained) (sym (g.is ∙ ap (λ (b : Bool). if b then refused (refusal 14) else accepted (width, part 0 count words)) (eq-eqb count 0 e)))) p
+  line_is p e = ap (λ o. o and_then chained) ((d.read room).is ∙ ap (λ (q : Option Frame). line_outcome q words) e)
 
-  pub count_few : length (part 0 count words) ≤ 1024
-  count_few = omega (arith, length-take (count - 0) (drop 0 words), g.few)
+  pub line_down : (e : Refusal) → r ≡ Err e → (t t' : Totals) (out after : List ℕ) (put : ℕ) → Printed (refused (reason_of e)) t out after put t' → Printed (outcome_of line) t out after put t'
+  line_down e f t t' out after put p =
+      let same : ◌≡◌ {A = Outcome Done} (refused (reason_of e)) (outcome_of line) =
+      ap (λ (x : Refusal). refused (reason_of x)) (d.none room e f) ∙ sym (line_is None (ap result_ok f)) in
+      subst (λ (a : Outcome Done). Printed a t out after put t') same p
 
-  pub count_inside : 1024 ≤ length words → count ≤ length words
-  count_inside h = omega (arith, g.few)
+  module _ (f : Frame) (e : r ≡ Ok f) where
+    few : f.nodes ≤ 512
+    few = let k = subst (λ (q : Option Frame). MatchOption q (Unit {0}) (λ g. g.nodes ≤ 512)) (ap result_ok e) (d.read room).few in k
 
-  pub line_chained : (t t' : Totals) (before after : List ℕ) (put : ℕ) → (count ≡ 0 → ⊥) → Printed (chained (width, part 0 count words)) t before after put t' → Printed (outcome_of line) t before after put t'
-  unfolding outcome_of
-  line_chained t t' before after put e p =
-      subst (λ (a : Outcome Done). Printed a t before after put t')
-      (ap (λ o. o and_then chained) (sym (g.is ∙ ap (λ (b : Bool). if b then refused (refusal 14) else accepted (width, part 0 count words)) (ne_eqb count 0 e)))) p
+    pub count_fits : Fits w64 (2 * f.nodes)
+    count_fits = omega (arith, few)
 
-pub ruleset reading = (line_down, count_inside, count_few, line_chained)
+    pub count_few : length (take (2 * f.nodes) words) ≤ 1024
+    count_few = omega (arith, length-take (2 * f.nodes) words, few)
+
+    pub count_inside : 1024 ≤ length words → 2 * f.nodes ≤ length words
+    count_inside h = omega (arith, few)
+
+    pub line_chained : (t t' : Totals) (out after : List ℕ) (put : ℕ) → Printed (chained (f.width, take (2 * f.nodes) words)) t out after put t' → Printed (outcome_of line) t out after put t'
+    line_chained t t' out after put p = subst (λ (a : Outcome Done). Printed a t out after put t') (sym (line_is (Some f) (ap result_ok e))) p
+
+pub ruleset reading = (line_down, count_fits, count_inside, count_few, line_chained)
 
 -- ---- a frame
 
@@ -216,19 +202,13 @@ module _ (ws : List ℕ) (x : Whole ws) (w : ℕ) where
   unfolding frame
   frame_by = ap₂ (λ (n : ℕ) (l : List ℕ). digits 2 w ++ (nodes_text n l ++ (10 ∷ []))) (half ws x) x.words
 
-  module _ (before : List ℕ) (few : length ws ≤ 1024) (h : 9219 ≤ length before) where
-    room : 3 + 18 * (length ws / 2) ≤ length before
-    room = omega arith
+  pub tree_laid : (before after : List ℕ) (r : Result ℕ Refusal) → PutsFrame ws w before after r → frame_bytes ws ≤ length before → Laid before after (frame w (tree_at ws))
+  tree_laid before after r p l = record { is = p.written l ∙ ap (λ (xs : List ℕ). over xs before) frame_by }
 
-    module _ (first : List ℕ) (e : first ≡ over (digits (min 2 (length before)) w) before) (rest : List ℕ)
-        (f : rest ≡ over (nodes_text (min (length ws / 2) (length (tail 2 first) / 18)) ws) (tail 2 first)) where
-      pub tree_laid : Laid before (set (put_mid 2 (length first - 2) first rest) (2 + 18 * (length ws / 2)) 10) (frame w (tree_at ws))
-      tree_laid = subst (Laid before (set (put_mid 2 (length first - 2) first rest) (2 + 18 * (length ws / 2)) 10)) frame_by (frame_laid ws w before room first e rest f)
+  pub frame_count : (before after : List ℕ) (r : Result ℕ Refusal) → PutsFrame ws w before after r → frame_bytes ws ≤ length before → (n : ℕ) → r ≡ Ok n → n ≡ length (frame w (tree_at ws))
+  frame_count before after r p l n e = omega (arith, half ws x, length_frame w (tree_at ws), (let s : ◌≡◌ {A = Result ℕ Refusal} (Ok n) (Ok (frame_bytes ws)) = sym e ∙ p.count l in let m : n ≡ frame_bytes ws = cc in m))
 
-      pub tree_long : (i b : ℕ) → length (set (put_mid 2 (length first - 2) first rest) i b) ≡ length before
-      tree_long = frame_long ws w before room first e rest f
+pub frame_fits : (words : List ℕ) (w : ℕ) (before after : List ℕ) (r : Result ℕ Refusal) → PutsFrame words w before after r → frame_bytes words ≤ length before → IsOk r
+frame_fits words w before after r p l = ap is_ok (p.count l)
 
-  pub frame_count : 2 + 18 * (length ws / 2) + 1 ≡ length (frame w (tree_at ws))
-  frame_count = omega (arith, half ws x, length_frame w (tree_at ws))
-
-pub ruleset framing = (tree_laid, tree_long, frame_count)
+pub ruleset framing = (tree_laid, frame_count, frame_fits)

@@ -8,7 +8,7 @@ use lib.Dec.{ltb}
 use lib.ListN.{length, take, drop, replicate, length-append, length-take, length-drop}
 use lib.Seq.{take_at}
 use borrow.Rule.Slice.PartMut.{put_mid}
-use Rattle.std.specs.Prelude.{if◌then◌else◌}
+use Rattle.std.specs.Prelude.{if◌then◌else◌, Result, Ok, Err}
 use Rattle.expr.specs.declared.refusal.Reason.{Reason}
 use Rattle.expr.specs.declared.refusal.Refusal.{Refusal}
 use Rattle.expr.specs.Refusals.{refusal, reason_of}
@@ -18,7 +18,6 @@ use Rattle.expr.specs.Expr.{Expr, encode, nodes}
 use Rattle.expr.specs.ExprLaws.{length_encode}
 use Rattle.expr.specs.ParseLaws.{parse_sound}
 use Rattle.expr.specs.Parse.{Accepts}
-use Rattle.expr.specs.Parts.{part}
 use Rattle.expr.specs.Front.{Exactly, tree_at}
 use Rattle.expr.specs.PartLaws.{exact_tree, exact_whole}
 use Rattle.width.specs.Checked.{room_for}
@@ -30,9 +29,9 @@ use Rattle.rewriting.specs.Chain.{last_of, trees_of}
 use Rattle.rewriting.specs.ChainLaws.{listed_is}
 use Rattle.atom_simplifier.specs.Calls.{with_work, chain_admitted}
 use Rattle.atom_simplifier.specs.Chained.{Chained, ChainIs, ChainGives}
-use Rattle.atom_simplifier.specs.declared.chain.ChainAnswer.{ChainAnswer}
-use Rattle.atom_simplifier.specs.declared.chain.ChainAnswer.TheVariants.{End, Refused}
-use Rattle.atom_simplifier.specs.Answers.{chain_outcome}
+use Rattle.atom_simplifier.specs.declared.chain.ChainEnd.{ChainEnd}
+use Rattle.expr.specs.Answers.{outcome}
+use Rattle.atom_simplifier.specs.Answers.{end_numbers}
 use Rattle.report_lines.specs.Report.{Done, done, chained}
 use Rattle.report_lines.specs.Promises.{done_by, Reaches, Ran}
 
@@ -67,22 +66,22 @@ module _ (ws : List ℕ) (w : ℕ) (t : Expr) (after rest work : List ℕ) (n k 
   exactly : Exactly ws t
   exactly = record { words = accepts.words; operands = accepts.valid.operands }
 
-  end_words : part 0 (2 * n) work ≡ encode c.end
+  end_words : take (2 * n) work ≡ encode c.end
   end_words =
-      ap (take (2 * n - 0)) (e ∙ ap (λ (l : List ℕ). l ++ rest) c.words ∙ append_assoc (encode c.end) _ rest)
-      ∙ take_at (encode c.end) _ (2 * n - 0) (omega (arith, length_encode c.end, c.nodes_is))
+      ap (take (2 * n)) (e ∙ ap (λ (l : List ℕ). l ++ rest) c.words ∙ append_assoc (encode c.end) _ rest)
+      ∙ take_at (encode c.end) _ (2 * n) (omega (arith, length_encode c.end, c.nodes_is))
 
-  end_exactly : Exactly (part 0 (2 * n) work) c.end
+  end_exactly : Exactly (take (2 * n) work) c.end
   end_exactly =
       let a = parse_sound (encode c.end) c.end (one_width_sound (encode c.end) w [] c.end c.one_width).parsed in
       record { words = end_words; operands = a.valid.operands }
 
-  is_done : done w t ≡ done_by w ws (part 0 (2 * n) work) k
+  is_done : done w t ≡ done_by w ws (take (2 * n) work) k
   unfolding done_by
   is_done =
       let i : c.trees ≡ trees_of w t = listed_is w c.listed in
       let a : t ≡ tree_at ws = sym (exact_tree ws t exactly) in
-      let b : last_of t (trees_of w t) ≡ tree_at (part 0 (2 * n) work) = ap (last_of t) (sym i) ∙ sym c.is_last ∙ sym (exact_tree (part 0 (2 * n) work) c.end end_exactly) in
+      let b : last_of t (trees_of w t) ≡ tree_at (take (2 * n) work) = ap (last_of t) (sym i) ∙ sym c.is_last ∙ sym (exact_tree (take (2 * n) work) c.end end_exactly) in
       let m : length (trees_of w t) - 1 ≡ k = omega (arith, ap length i, c.count_is) in
       let f : (x y : Expr) (j : ℕ) → Done = λ x y j. record { width = w; tree = x; end = y; rewrites = j } in
       ap (λ (x : Expr). f x (last_of t (trees_of w t)) (length (trees_of w t) - 1)) a
@@ -97,7 +96,7 @@ module _ (ws : List ℕ) (w : ℕ) (t : Expr) (after rest work : List ℕ) (n k 
       refl,
       is_done,
       exact_whole ws t exactly,
-      exact_whole (part 0 (2 * n) work) c.end end_exactly,
+      exact_whole (take (2 * n) work) c.end end_exactly,
       omega (arith, ap length e, length-append after rest, ap length c.words, length-append (encode c.end) (replicate (length after - length (encode c.end)) 0), length_encode c.end, c.nodes_is),
       omega (arith, c.nodes_is, c.no_more_nodes, accepts.valid.count),
     );
@@ -110,17 +109,17 @@ pub admitted_tree : (ws : List ℕ) (w : ℕ) (widths : List ℕ) (a : ℕ) (t :
 unfolding chain_admitted
 admitted_tree ws w widths a t e = (roomy (λ u. 2 * (nodes u + D u)) a (one_width_of ws w widths) e).0
 
-module _ (ws : List ℕ) (w e : ℕ) (work after : List ℕ) (x : ChainAnswer) (g : ChainGives (chain_admitted ws w [] (length (part 0 e work))) w [] (part 0 e work) after (chain_outcome x)) where
+module _ (ws : List ℕ) (w e : ℕ) (work after : List ℕ) (x : Result ChainEnd Refusal) (g : ChainGives (chain_admitted ws w [] (length (take e work))) w [] (take e work) after (mapped end_numbers (outcome x))) where
   abbrev back : List ℕ
-  back = put_mid 0 (e - 0) work after
+  back = put_mid 0 e work after
 
   abbrev room : ℕ
-  room = length (part 0 e work)
+  room = length (take e work)
 
   room_most : e ≤ 4096 → room ≤ 4096
-  room_most h = omega (arith, length-take (e - 0) (drop 0 work))
+  room_most h = omega (arith, length-take e work)
 
-  ended : (a : Outcome Expr) → chain_admitted ws w [] room ≡ a → ChainIs a w [] (part 0 e work) after (chain_outcome x) → e ≤ 4096 → (n k : ℕ) → x ≡ End n k
+  ended : (a : Outcome Expr) → chain_admitted ws w [] room ≡ a → ChainIs a w [] (take e work) after (mapped end_numbers (outcome x)) → e ≤ 4096 → (n k : ℕ) → x ≡ Ok (record { nodes = n; rewrites = k })
       → Ran (chained (w, ws)) w ws back (accepted (n, k))
   unfolding ChainIs
   ended (refused r) f i h n k p = absurd (let z : ◌≡◌ {A = ℕ} 0 1 = cc in omega arith)
@@ -129,13 +128,13 @@ module _ (ws : List ℕ) (w e : ℕ) (work after : List ℕ) (x : ChainAnswer) (
       let mn : m ≡ n = ap (λ (v : ℕ × ℕ). v.0) both in
       let jk : j ≡ k = ap (λ (v : ℕ × ℕ). v.1) both in
       subst (λ (o : Outcome Done). Ran o w ws back (accepted (n, k))) (ap (mapped (done w)) (sym (more_room ws w [] room 4096 t (room_most h) f)))
-      (ran ws w t after (drop (e - 0) (drop 0 work)) back n k (admitted_tree ws w [] room t f) (subst (λ (u : ℕ). Chained w [] t after u k) mn (subst (Chained w [] t after m) jk c)) refl)
+      (ran ws w t after (drop e work) back n k (admitted_tree ws w [] room t f) (subst (λ (u : ℕ). Chained w [] t after u k) mn (subst (Chained w [] t after m) jk c)) refl)
 
-  chain_ended : e ≤ 4096 → (n k : ℕ) → x ≡ End n k → Ran (chained (w, ws)) w ws back (accepted (n, k))
+  chain_ended : e ≤ 4096 → (n k : ℕ) → x ≡ Ok (record { nodes = n; rewrites = k }) → Ran (chained (w, ws)) w ws back (accepted (n, k))
   chain_ended h n k p = ended (chain_admitted ws w [] room) refl g.is h n k p
 
-  module _ (r : Refusal) (p : x ≡ Refused r) where
-    refused_is : (a : Outcome Expr) → ChainIs a w [] (part 0 e work) after (chain_outcome x) → a ≡ refused (reason_of r)
+  module _ (r : Refusal) (p : x ≡ Err r) where
+    refused_is : (a : Outcome Expr) → ChainIs a w [] (take e work) after (mapped end_numbers (outcome x)) → a ≡ refused (reason_of r)
     unfolding ChainIs
     refused_is (refused q) i = let z : q ≡ reason_of r = cc in ap (λ (y : Reason). refused y) z
     refused_is (accepted t) (m, j, q, l, c) = absurd (let z : ◌≡◌ {A = ℕ} 0 1 = cc in omega arith)
@@ -151,16 +150,16 @@ module _ (ws : List ℕ) (w e : ℕ) (work after : List ℕ) (x : ChainAnswer) (
     all_refused f = down (subst (λ (a : ℕ). chain_admitted ws w [] a ≡ refused (reason_of r)) f (refused_is (chain_admitted ws w [] room) g.is))
 
 -- with short work
-module _ (ws : List ℕ) (w : ℕ) (work after : List ℕ) (x : ChainAnswer) where
-  pub chain_short : ChainGives (chain_admitted ws w [] (length (part 0 (4 * length ws) work))) w [] (part 0 (4 * length ws) work) after (chain_outcome x) → length ws ≤ 1024
-      → (n k : ℕ) → x ≡ End n k → Ran (chained (w, ws)) w ws (put_mid 0 (4 * length ws - 0) work after) (accepted (n, k))
+module _ (ws : List ℕ) (w : ℕ) (work after : List ℕ) (x : Result ChainEnd Refusal) where
+  pub chain_short : ChainGives (chain_admitted ws w [] (length (take (4 * length ws) work))) w [] (take (4 * length ws) work) after (mapped end_numbers (outcome x)) → length ws ≤ 1024
+      → (n k : ℕ) → x ≡ Ok (record { nodes = n; rewrites = k }) → Ran (chained (w, ws)) w ws (put_mid 0 (4 * length ws) work after) (accepted (n, k))
   chain_short g h = chain_ended ws w (4 * length ws) work after x g (omega arith)
 
 -- with all of the work
 module _ (ws : List ℕ) (w : ℕ) (work after : List ℕ) where
-  pub chain_whole : (x : ChainAnswer) → ChainGives (chain_admitted ws w [] (length (part 0 4096 work))) w [] (part 0 4096 work) after (chain_outcome x) → 4096 ≤ length work
-      → Ran (chained (w, ws)) w ws (put_mid 0 (4096 - 0) work after) (chain_outcome x)
-  chain_whole (End n k) g h = chain_ended ws w 4096 work after (End n k) g (omega arith) n k refl
-  chain_whole (Refused r) g h = all_refused ws w 4096 work after (Refused r) g r refl (omega (arith, length-take (4096 - 0) (drop 0 work), length-drop 0 work))
+  pub chain_whole : (x : Result ChainEnd Refusal) → ChainGives (chain_admitted ws w [] (length (take 4096 work))) w [] (take 4096 work) after (mapped end_numbers (outcome x)) → 4096 ≤ length work
+      → Ran (chained (w, ws)) w ws (put_mid 0 4096 work after) (mapped end_numbers (outcome x))
+  chain_whole (Ok e) g h = chain_ended ws w 4096 work after (Ok e) g (omega arith) e.nodes e.rewrites refl
+  chain_whole (Err r) g h = all_refused ws w 4096 work after (Err r) g r refl (omega (arith, length-take 4096 work, length-drop 0 work))
 
 pub ruleset running = (chain_short, chain_refused, chain_whole)

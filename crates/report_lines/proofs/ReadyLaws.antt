@@ -1,13 +1,12 @@
 -- The tests of a state and of the lent places. Assumes nothing.
-use mathlib.Core.Path.{◌≡◌, ◌∙◌}
-use mathlib.Core.Bool.{Bool, true, false, not, ◌&&◌}
-use Prim.Native.Nat.{ℕ, ◌*◌, ◌≤◌, ◌<◌}
+use mathlib.Core.Path.{◌≡◌}
+use mathlib.Core.Bool.{true, ◌&&◌}
+use Prim.Native.Nat.{ℕ, ◌*◌, ◌≤◌}
 use lib.Dec.{leb, eqb}
-use borrow.Author.Tests.{leb-true, eqb-true, not-true, not-false, le-leb, lt-leb, ne_eqb}
+use borrow.Author.Tests.{leb-true, eqb-true, le-leb}
 use Rattle.arith.specs.ChoiceLaws.{both_true}
 use Rattle.report_lines.specs.declared.Totals.{Totals}
-use Rattle.report_lines.specs.declared.State.{State}
-use Rattle.report_lines.specs.Steps.{sound_totals, sound_room, ready}
+use Rattle.report_lines.specs.Steps.{sound_totals, sound_room}
 
 -- what the test of the sums says
 pub record SoundSums (t : Totals) : Type 0 where
@@ -59,58 +58,3 @@ places_open line words work out s =
 pub places_shut : (line words work out : ℕ) → SoundPlaces line words work out → sound_room line words work out ≡ true
 unfolding sound_room
 places_shut line words work out s = rw s.line_is (simp (le-leb 1024 words s.some_words, le-leb 4096 work s.some_work, le-leb 9400 out s.some_out))
-
--- ---- the tests
-
-module _ (t : Totals) where
-  pub too_many : 65535 < t.lines → false ≡ sound_totals t
-  unfolding sound_totals
-  too_many a = simp (lt-leb t.lines 65535 a)
-
-  pub more_refused : t.lines ≤ 65535 → t.lines < t.refused → false ≡ sound_totals t
-  unfolding sound_totals
-  more_refused a b = simp (le-leb t.lines 65535 a, lt-leb t.refused t.lines b)
-
-  pub more_before : t.lines ≤ 65535 → t.refused ≤ t.lines → 512 * t.lines < t.before → false ≡ sound_totals t
-  unfolding sound_totals
-  more_before a b c = simp (le-leb t.lines 65535 a, le-leb t.refused t.lines b, lt-leb t.before (512 * t.lines) c)
-
-  pub sound_after : t.lines ≤ 65535 → t.refused ≤ t.lines → t.before ≤ 512 * t.lines → leb t.after (512 * t.lines) ≡ sound_totals t
-  unfolding sound_totals
-  sound_after a b c = simp (le-leb t.lines 65535 a, le-leb t.refused t.lines b, le-leb t.before (512 * t.lines) c)
-
-pub ruleset sound_sums = (too_many, more_refused, more_before, sound_after)
-
-module _ (line words work out : ℕ) where
-  pub other_line : (line ≡ 9219 → ⊥) → false ≡ sound_room line words work out
-  unfolding sound_room
-  other_line a = simp (ne_eqb line 9219 a)
-
-  pub few_words : line ≡ 9219 → words < 1024 → false ≡ sound_room line words work out
-  unfolding sound_room
-  few_words a b = rw a (simp (lt-leb 1024 words b))
-
-  pub little_work : line ≡ 9219 → 1024 ≤ words → work < 4096 → false ≡ sound_room line words work out
-  unfolding sound_room
-  little_work a b c = rw a (simp (le-leb 1024 words b, lt-leb 4096 work c))
-
-  pub sound_out : line ≡ 9219 → 1024 ≤ words → 4096 ≤ work → leb 9400 out ≡ sound_room line words work out
-  unfolding sound_room
-  sound_out a b c = rw a (simp (le-leb 1024 words b, le-leb 4096 work c))
-
-pub ruleset sound_places = (other_line, few_words, little_work, sound_out)
-
-module _ (s : State) (line words work out : ℕ) (b : Bool) (e : b ≡ sound_totals s.totals) where
-  pub no_totals_lem : not b ≡ true → false ≡ ready s line words work out
-  unfolding ready
-  no_totals_lem f = simp (← e, not-true b f)
-
-  pub have_too_many : not b ≡ false → line < s.have → false ≡ ready s line words work out
-  unfolding ready
-  have_too_many f g = simp (← e, not-false b f, lt-leb s.have line g)
-
-  pub rest_ready : not b ≡ false → s.have ≤ line → (r : Bool) → r ≡ sound_room line words work out → r ≡ ready s line words work out
-  unfolding ready
-  rest_ready f g r h = h ∙ simp (← e, not-false b f, le-leb s.have line g)
-
-pub ruleset sound_state = (no_totals_lem, have_too_many, rest_ready)

@@ -10,7 +10,7 @@ use Rattle.expr.specs.declared.refusal.Reason.{Reason}
 use Rattle.expr.specs.Outcome.{Outcome, refused, accepted, mapped, ◌and_then◌}
 use Rattle.expr.specs.Expr.{Expr, nodes}
 use Rattle.expr.specs.ParseLaws.{parse_sound}
-use Rattle.expr.specs.Parts.{part, Laid}
+use Rattle.expr.specs.Parts.{Laid}
 use Rattle.expr.specs.Lent.{over}
 use Rattle.value.specs.ValueLaws.{one_width_sound}
 use Rattle.rewriting.specs.Chain.{last_of, trees_of}
@@ -28,7 +28,7 @@ use Rattle.report_lines.specs.Report.{Done, done, chained, outcome_of, fields, r
 use Rattle.report_lines.specs.Steps.{outcomes_left, rest_of, sound_totals}
 use Rattle.report_lines.specs.ReportLaws.{plus_plus}
 use Rattle.report_lines.specs.Promises.{PrintedStep, Turnable, Turned}
-use Rattle.report_lines.proofs.ReadyLaws.{sound_open, sound_shut, places_open}
+use Rattle.report_lines.proofs.ReadyLaws.{sound_open, sound_shut}
 use Rattle.report_lines.proofs.RanLaws.{admitted_tree}
 use Rattle.report_lines.proofs.TextLaws.{fields_most}
 
@@ -121,25 +121,7 @@ sound_next t l s h =
 -- ---- `turn`
 
 -- what the tests say of the lent places
-module _ (s : State) (line chunk : List ℕ) (words work out : ℕ) (u : Turnable s line chunk words work out) where
-  pub turn_sound : sound_totals s.totals ≡ true
-  turn_sound = u.sound
-
-  pub turn_before : s.totals.lines < 65535
-  turn_before = u.before_last
-
-  pub turn_out : 9321 ≤ out
-  turn_out = omega (arith, (places_open (length line) words work out u.room).some_out)
-
-  pub turn_words : 1024 ≤ words
-  turn_words = (places_open (length line) words work out u.room).some_words
-
-  pub turn_work : 4096 ≤ work
-  turn_work = (places_open (length line) words work out u.room).some_work
-
-  line_is : length line ≡ 9219
-  line_is = (places_open (length line) words work out u.room).line_is
-
+module _ (s : State) (line chunk : List ℕ) (out : ℕ) (u : Turnable s line chunk out) where
   -- a line is printed and the state is after it
   module _ (l line' before after : List ℕ) (used : ℕ) (r : Step) (g : PrintedStep (outcome_of l) s.totals used before after r) (least : 1 ≤ used) (most : used ≤ length chunk)
       (e : (more : List ℕ) → lines_from (take s.have line) (chunk ++ more) ≡ l ∷ lines_from [] (drop used chunk ++ more)) (long : length line' ≡ length line) where
@@ -169,13 +151,13 @@ module _ (s : State) (line chunk : List ℕ) (words work out : ℕ) (u : Turnabl
     }
 
   -- a line that lies whole in the chunk
-  pub turn_whole : (before after : List ℕ) (end : ℕ) (r : Step) → PrintedStep (outcome_of (part 0 end chunk)) s.totals (end + 1) before after r → s.have ≡ 0 → end ≡ length (up_to chunk)
+  pub turn_whole : (before after : List ℕ) (end : ℕ) (r : Step) → PrintedStep (outcome_of (take end chunk)) s.totals (end + 1) before after r → s.have ≡ 0 → end ≡ length (up_to chunk)
       → end < length chunk → Turned s line chunk before r line after
   turn_whole before after end r g z e h =
       let ends : has_end chunk ≡ true = inside_ended chunk (omega arith) in
       let used_is : used_of chunk ≡ end + 1 = omega (arith, ended_used chunk ends) in
-      let l-is : part 0 end chunk ≡ up_to chunk = ap (λ (n : ℕ). take n chunk) (let y : end - 0 ≡ length (up_to chunk) = omega arith in y) ∙ front_is chunk in
-      turned (part 0 end chunk) line before after (end + 1) r g (omega arith) (omega arith)
+      let l-is : take end chunk ≡ up_to chunk = ap (λ (n : ℕ). take n chunk) e ∙ front_is chunk in
+      turned (take end chunk) line before after (end + 1) r g (omega arith) (omega arith)
       (λ more.
       ap (λ (n : ℕ). lines_from (take n line) (chunk ++ more)) z
       ∙ lines_ended [] chunk more ends
@@ -201,14 +183,14 @@ module _ (s : State) (line chunk : List ℕ) (words work out : ℕ) (u : Turnabl
     kept_front = ap (take t.have) line-to ∙ take_at bytes (drop (length bytes) line) t.have (sym have_is)
 
     clipped : bytes ≡ take 9219 (take s.have line ++ up_to chunk)
-    clipped = ap (λ (n : ℕ). take n (take s.have line ++ up_to chunk)) line_is
+    clipped = ap (λ (n : ℕ). take n (take s.have line ++ up_to chunk)) u.line_is
 
-    pub turn_ended : (before after : List ℕ) (r : Step) → PrintedStep (outcome_of (part 0 t.have line')) s.totals t.used before after r → t.ended ≡ true → Turned s line chunk before r line' after
+    pub turn_ended : (before after : List ℕ) (r : Step) → PrintedStep (outcome_of (take t.have line')) s.totals t.used before after r → t.ended ≡ true → Turned s line chunk before r line' after
     turn_ended before after r g i =
         let ends : has_end chunk ≡ true = sym ended_is ∙ i in
         let l = take s.have line ++ up_to chunk in
-        let same : outcome_of (part 0 t.have line') ≡ outcome_of l =
-        ap outcome_of (ap (λ (n : ℕ). take n line') (let y : t.have - 0 ≡ t.have = omega arith in y) ∙ kept_front ∙ clipped) ∙ outcome_clip l in
+        let same : outcome_of (take t.have line') ≡ outcome_of l =
+        ap outcome_of (kept_front ∙ clipped) ∙ outcome_clip l in
         turned l line' before after t.used r (subst (λ (o : Outcome Done). PrintedStep o s.totals t.used before after r) same g)
         (omega (arith, ended_used chunk ends)) (omega (arith, ended_fits chunk ends))
         (λ more. lines_ended (take s.have line) chunk more ends ∙ ap (λ (n : ℕ). l ∷ lines_from [] (drop n chunk ++ more)) (sym used_is))
@@ -235,4 +217,4 @@ module _ (s : State) (line chunk : List ℕ) (words work out : ℕ) (u : Turnabl
           put_most = omega arith;
         }
 
-pub ruleset turning = (turn_sound, turn_before, turn_out, turn_words, turn_work, turn_whole, kept_long, kept_inside, turn_ended, turn_going)
+pub ruleset turning = (turn_whole, kept_long, kept_inside, turn_ended, turn_going)

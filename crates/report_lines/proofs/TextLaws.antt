@@ -10,7 +10,7 @@ use mir.Syntax.{w64}
 use mir.Val.{Fits}
 use lib.ListN.{length, drop, get_or, set, length-append, length-set, drop_of_length-le}
 use lib.Seq.{drop-cons, set_at}
-use borrow.Author.Tests.{ltb-true, ltb-false, lt-ltb, le-ltb, ne_eqb}
+use borrow.Author.Tests.{ltb-true, ltb-false, ne_eqb}
 use borrow.Rule.Slice.PartMut.{put_mid}
 use Rattle.std.specs.Prelude.{if◌then◌else◌}
 use Rattle.expr.specs.Parts.{tail, Laid}
@@ -102,43 +102,39 @@ pub record Fielding (ns before after : List ℕ) (at i : ℕ) : Type 0 where
   pub others : text ++ fields (drop i ns) ≡ fields ns
   pub at_is : at ≡ length text
   pub at_most : at ≤ 17 * i
-  pub turn : i ≤ length ns
-  pub long : length after ≡ length before
 
 module _ (ns before : List ℕ) (h : 17 * length ns ≤ length before) (few : length ns ≤ 6) where
   pub no_field : Fielding ns before before 0 0
-  no_field = record { text = []; laid = record { is = refl }; others = refl; at_is = refl; at_most = omega arith; turn = omega arith; long = refl }
+  no_field = record { text = []; laid = record { is = refl }; others = refl; at_is = refl; at_most = omega arith }
 
   module _ (after : List ℕ) (at i : ℕ) (f : Fielding ns before after at i) where
-    pub fields_room : i < length ns → 17 ≤ length (tail at after)
-    fields_room l = omega (arith, f.at_most, f.long, length_tail at after)
+    module _ (l : i < length ns) (long : length after ≡ length before) where
+      pub fields_room : 17 ≤ length (tail at after)
+      fields_room = omega (arith, f.at_most, length_tail at after)
 
-    pub fields_inside : i < length ns → at ≤ length after
-    fields_inside l = omega (arith, f.at_most, f.long)
+      pub fields_inside : at ≤ length after
+      fields_inside = omega (arith, f.at_most)
 
-    pub one_more : (end : ℕ) (rest : List ℕ) (k : ℕ) → i < length ns → end ≡ (if ltb (i + 1) (length ns) then 32 else 10)
-        → Laid (tail at after) rest (field (get_or ns i 0) end) → k ≡ length (field (get_or ns i 0) end) → Fielding ns before (put_mid at (length after - at) after rest) (at + k) (i + 1)
-    one_more end rest k l d m q =
-        let n = get_or ns i 0 in
-        let e = fields_from ns i end l d in
-        let p : length (field n end) ≤ 17 = omega (arith, field_length n end, (places_range 15 n).1) in
-        let j = laid_on before after f.text f.laid at f.at_is rest (field n end) m in
-        let s : length (f.text ++ field n end) ≡ at + k = omega (arith, length-append f.text (field n end), f.at_is) in
-        record {
-          text = f.text ++ field n end;
-          laid = j;
-          others =
-              ap (λ (x : ℕ). (f.text ++ field n end) ++ fields (drop x ns)) (let x : i + 1 ≡ suc i = omega arith in x)
-              ∙ append_assoc f.text (field n end) (fields (drop (suc i) ns))
-              ∙ ap (λ (u : List ℕ). f.text ++ u) (sym e) ∙ f.others;
-          at_is = sym s;
-          at_most = omega (arith, f.at_most);
-          turn = omega arith;
-          long = laid_length before _ (f.text ++ field n end) j (omega (arith, f.at_most));
-        }
+      pub one_more : (end : ℕ) (rest : List ℕ) (k : ℕ) → end ≡ (if ltb (i + 1) (length ns) then 32 else 10)
+          → Laid (tail at after) rest (field (get_or ns i 0) end) → k ≡ length (field (get_or ns i 0) end) → Fielding ns before (put_mid at (length after - at) after rest) (at + k) (i + 1)
+      one_more end rest k d m q =
+          let n = get_or ns i 0 in
+          let e = fields_from ns i end l d in
+          let p : length (field n end) ≤ 17 = omega (arith, field_length n end, (places_range 15 n).1) in
+          let s : length (f.text ++ field n end) ≡ at + k = omega (arith, length-append f.text (field n end), f.at_is) in
+          record {
+            text = f.text ++ field n end;
+            laid = laid_on before after f.text f.laid at f.at_is rest (field n end) m;
+            others =
+                ap (λ (x : ℕ). (f.text ++ field n end) ++ fields (drop x ns)) (let x : i + 1 ≡ suc i = omega arith in x)
+                ∙ append_assoc f.text (field n end) (fields (drop (suc i) ns))
+                ∙ ap (λ (u : List ℕ). f.text ++ u) (sym e) ∙ f.others;
+            at_is = sym s;
+            at_most = omega (arith, f.at_most);
+          }
 
-    pub fields_fit : (n end k : ℕ) → i < length ns → k ≡ length (field n end) → Fits w64 (at + k)
-    fields_fit n end k l e = omega (arith, f.at_most, field_length n end, (places_range 15 n).1)
+      pub fields_fit : (n end k : ℕ) → k ≡ length (field n end) → Fits w64 (at + k)
+      fields_fit n end k e = omega (arith, f.at_most, field_length n end, (places_range 15 n).1)
 
     all_text : length ns ≤ i → f.text ≡ fields ns
     unfolding fields
@@ -150,33 +146,21 @@ module _ (ns before : List ℕ) (h : 17 * length ns ≤ length before) (few : le
     pub fields_count : length ns ≤ i → at ≡ length (fields ns)
     fields_count l = f.at_is ∙ ap length (all_text l)
 
-    pub fields_few : at ≤ 102
-    fields_few = omega (arith, f.at_most, f.turn)
+    pub fields_few : i ≤ length ns → at ≤ 102
+    fields_few l = omega (arith, f.at_most)
 
-    pub fields_long : length after ≡ length before
-    fields_long = f.long
-
-pub ruleset all_fields = (no_field, fields_room, fields_inside, fields_fit, one_more, fields_put, fields_count, fields_few, fields_long)
+pub ruleset all_fields = (no_field, fields_room, fields_inside, fields_fit, one_more, fields_put, fields_count, fields_few)
 
 -- ---- the small functions
-
-module _ (done count : ℕ) where
-  pub more_follow : done < count → ◌≡◌ {A = ℕ} 32 (if ltb done count then 32 else 10)
-  more_follow h = simp (lt-ltb done count h)
-
-  pub none_follows : count ≤ done → ◌≡◌ {A = ℕ} 10 (if ltb done count then 32 else 10)
-  none_follows h = simp (le-ltb done count h)
 
 module _ (before after : ℕ) where
   pub nothing_before : before ≡ 0 → 0 ≡ percentage_of before after
   unfolding percentage_of
   nothing_before e = rw e
 
-  pub some_before : (before ≡ 0 → ⊥) → (q : ℕ) → q ≡ 100 * after / before → q ≡ percentage_of before after
+  pub some_before : (before ≡ 0 → ⊥) → 100 * after / before ≡ percentage_of before after
   unfolding percentage_of
-  some_before f q e = e ∙ simp (ne_eqb before 0 f)
-
-pub ruleset small = (more_follow, none_follows, nothing_before, some_before)
+  some_before f = simp (ne_eqb before 0 f)
 
 -- ---- the closing line
 

@@ -1,16 +1,15 @@
 -- What the private functions promise one another. No public promise names these. Definitions only.
 use Rattle.std.specs.Prelude.{◌≡◌, true, List, [], ◌∷◌, ◌++◌, ℕ, suc, ◌+◌, ◌-◌, ◌*◌, ◌≤◌, ◌<◌, max, eqb, length, take, if◌then◌else◌}
 use borrow.Rule.Slice.PartMut.{put_mid}
-use Rattle.expr.specs.Refusals.{refusal}
 use Rattle.expr.specs.Outcome.{Outcome, refused, accepted}
 use Rattle.expr.specs.Front.{Whole, tree_at}
-use Rattle.expr.specs.Parts.{tail, part, Laid}
+use Rattle.expr.specs.Parts.{tail, Laid}
 use Rattle.hexadecimal.specs.Hex.{hex_text}
 use Rattle.report_lines.specs.declared.Totals.{Totals}
 use Rattle.report_lines.specs.declared.State.{State}
 use Rattle.report_lines.specs.declared.Step.{Step}
 use Rattle.report_lines.specs.Report.{Done, outcome_of, text_of, plus, totals_of, closing}
-use Rattle.report_lines.specs.Steps.{rest_of, sound_totals, sound_room, Advances}
+use Rattle.report_lines.specs.Steps.{rest_of, sound_totals, Advances}
 
 -- ---- text
 
@@ -42,16 +41,11 @@ pub record Printed (o : Outcome Done) (t : Totals) (before after : List ℕ) (pu
 unfoldable pub done_by : ℕ → List ℕ → List ℕ → ℕ → Done
 done_by w ws es rewrites = record { width = w; tree = tree_at ws; end = tree_at es; rewrites = rewrites }
 
--- a line was read: its width, and its words at the front of the lent ones; 14 where there are none
-pub record LineRead (o : Outcome (ℕ × List ℕ)) (words : List ℕ) (width count : ℕ) : Type 0 where
-  pub is : o ≡ (if eqb count 0 then refused (refusal 14) else accepted (width, part 0 count words))
-  pub few : count ≤ 1024
-
 -- the chain of the words' tree has ended with this answer: the end tree's words are at the front of the work
 unfoldable pub Reaches : Outcome Done → ℕ → List ℕ → List ℕ → Outcome (ℕ × ℕ) → Type 0
 Reaches (refused r) w ws work answer = answer ≡ refused r
 Reaches (accepted d) w ws work answer =
-    (n : ℕ) × (k : ℕ) × (answer ≡ accepted (n, k)) × (d ≡ done_by w ws (part 0 (2 * n) work) k) × Whole ws × Whole (part 0 (2 * n) work)
+    (n : ℕ) × (k : ℕ) × (answer ≡ accepted (n, k)) × (d ≡ done_by w ws (take (2 * n) work) k) × Whole ws × Whole (take (2 * n) work)
     × (2 * n ≤ length work) × (2 * n ≤ 1024)
 
 pub record Ran (o : Outcome Done) (w : ℕ) (ws work : List ℕ) (answer : Outcome (ℕ × ℕ)) : Type 0 where
@@ -59,12 +53,20 @@ pub record Ran (o : Outcome Done) (w : ℕ) (ws work : List ℕ) (answer : Outco
 
 -- ---- a step
 
+-- a state, a line and an output from which a call goes on
+pub record Feedable (s : State) (line out : List ℕ) : Type 0 where
+  pub sound : sound_totals s.totals ≡ true
+  pub have_most : s.have ≤ length line
+  pub line_is : length line ≡ 9219
+  pub room : 9400 ≤ length out
+
 -- what `turn` is lent: a sound state before line 65,535, some bytes, and room
-pub record Turnable (s : State) (line chunk : List ℕ) (words work out : ℕ) : Type 0 where
+pub record Turnable (s : State) (line chunk : List ℕ) (out : ℕ) : Type 0 where
   pub sound : sound_totals s.totals ≡ true
   pub before_last : s.totals.lines < 65535
   pub have_most : s.have ≤ length line
-  pub room : sound_room (length line) words work out ≡ true
+  pub line_is : length line ≡ 9219
+  pub room : 9321 ≤ out
   pub some : 0 < length chunk
 
 -- a line is printed, and nothing of the next one is kept
@@ -81,8 +83,8 @@ pub record Turned (s : State) (line chunk before : List ℕ) (r : Step) (line' a
   pub put_most : r.put ≤ 9321
 
 -- a step that can be made behind those before it
-pub record FeedsOn (at : Step) (chunk line : List ℕ) (words work : ℕ) (out : List ℕ) : Type 0 where
-  pub turnable : Turnable at.state line (tail at.used chunk) words work (length (tail at.put out))
+pub record FeedsOn (at : Step) (chunk line out : List ℕ) : Type 0 where
+  pub turnable : Turnable at.state line (tail at.used chunk) (length (tail at.put out))
   pub used_most : at.used ≤ length chunk
   pub put_most : at.put ≤ length out
 

@@ -1,7 +1,8 @@
 -- The report: what document 01's program prints, as a function of the bytes of its input. Definitions only.
 use Rattle.std.specs.Prelude.{List, [], ◌∷◌, ◌++◌, map, ℕ, suc, ◌+◌, ◌-◌, ◌*◌, ◌/◌, max, eqb, length, take, if◌then◌else◌}
 use Rattle.expr.specs.Outcome.{Outcome, refused, accepted, mapped, ◌and_then◌}
-use Rattle.expr.specs.Expr.{Constant, Variable, Expr, leaf, unary, binary, nodes}
+use Rattle.expr.specs.Expr.{Expr, leaf, unary, binary, nodes}
+use Rattle.expr.specs.declared.kind.Leaf.TheVariants.{Constant, Variable}
 use Rattle.rewriting.specs.Chain.{last_of, trees_of}
 use Rattle.atom_simplifier.specs.Calls.{chain_admitted}
 use Rattle.hexadecimal.specs.Hex.{hex_text}

@@ -1,19 +1,19 @@
 // One line: its row, the frame of its end tree, and the sums with it.
-ghost use Rattle.std.specs.Prelude.{◌≡◌, true, max, ◌≤◌, ◌<◌, length};
-ghost use Rattle.expr.specs.Refusals.{refusal};
-ghost use Rattle.expr.specs.Outcome.{refused, accepted};
-ghost use Rattle.expr.specs.Front.{Whole, tree_at};
-ghost use Rattle.expr.specs.Parts.{Laid};
-ghost use Rattle.atom_simplifier.specs.Answers.{chain_outcome};
-ghost use Rattle.frame.specs.Frame.{frame, line_words};
+ghost use Rattle.std.specs.Prelude.{◌≡◌, max, ◌≤◌, length};
+ghost use Rattle.expr.specs.Refusals.{reason_of};
+ghost use Rattle.expr.specs.Outcome.{refused, accepted, mapped};
+ghost use Rattle.expr.specs.Front.{Whole};
+ghost use Rattle.expr.specs.Answers.{outcome};
+ghost use Rattle.atom_simplifier.specs.Answers.{end_numbers};
 ghost use Rattle.report_lines.specs.Report.{chained, outcome_of};
-ghost use Rattle.report_lines.specs.Steps.{sound_totals};
-ghost use Rattle.report_lines.specs.Promises.{own_conditions, highest, done_by, Printed, Ran, LineRead};
+ghost use Rattle.report_lines.specs.Promises.{own_conditions, highest, done_by, Printed, Ran};
 
+use crate::lent::{Ongoing, Scratch};
 use crate::{Totals, text};
 use atom_simplifier::chain;
-use atom_simplifier::chain::ChainAnswer;
+use atom_simplifier::chain::ChainEnd;
 use expr::kind;
+use expr::refusal::{Reason, Refusal};
 
 // How many bytes were put into the output, and the sums with the line.
 #[derive(Clone, Copy)]
@@ -22,25 +22,16 @@ pub(crate) struct Line {
     pub(crate) totals: Totals,
 }
 
-// The width of a line and the number of its words; no words where it is no frame.
-#[derive(Drop)]
-struct Read {
-    width: u32,
-    count: usize,
-}
-
 // The higher of what was found and a node's own.
 fn raised(found: u64, kind: u64, operand: u64) -> u64
     requires { own_conditions kind operand ≤ 4294967296 }
     ensures { result ≡ max found (own_conditions kind operand) }
 {
-    if kind != kind::VARIABLE {
-        return found;
+    if kind == kind::VARIABLE {
+        found.max(operand + 1)
+    } else {
+        found
     }
-    if operand < found {
-        return found;
-    }
-    operand + 1
 }
 
 // The highest variable number and one; 0 where there is no variable.
@@ -49,83 +40,63 @@ fn conditions(words: &[u64]) -> u64
     ensures { result ≡ highest words.now }
 {
     let mut found = 0;
-    let mut i = 0;
-    while i + 1 < words.len() {
-        found = raised(found, words[i], words[i + 1]);
-        i += 2;
+    for i in 0..words.len() / 2 {
+        found = raised(found, words[2 * i], words[2 * i + 1]);
     }
     found
 }
 
 // The chain with work for 2,048 nodes.
-fn run_whole(words: &[u64], width: u32, work: &mut [u64]) -> ChainAnswer
+fn run_whole(words: &[u64], width: u32, work: &mut [u64]) -> Result<ChainEnd, Refusal>
     requires { 4096 ≤ length work.old }
-    ensures { Ran (chained (width, words.now)) width words.now work.new (chain_outcome result) }
+    ensures { Ran (chained (width, words.now)) width words.now work.new (mapped end_numbers (outcome result)) }
 {
-    let none = [0u32; 0];
-    chain::chain(words, width, &none, &mut work[0..4096])
+    chain::chain(words, width, &[], &mut work[..4096])
 }
 
 // The chain with short work, and with all of it only where that is too little: the chain sets to 0 what it is lent.
-fn run_chain(words: &[u64], width: u32, work: &mut [u64]) -> ChainAnswer
+fn run_chain(words: &[u64], width: u32, work: &mut [u64]) -> Result<ChainEnd, Refusal>
     requires { (4096 ≤ length work.old) × (length words.now ≤ 1024) }
-    ensures { Ran (chained (width, words.now)) width words.now work.new (chain_outcome result) }
+    ensures { Ran (chained (width, words.now)) width words.now work.new (mapped end_numbers (outcome result)) }
 {
-    let none = [0u32; 0];
     let short = 4 * words.len();
-    match chain::chain(words, width, &none, &mut work[0..short]) {
-        ChainAnswer::End(nodes, rewrites) => ChainAnswer::End(nodes, rewrites),
-        ChainAnswer::Refused(r) => {
-            let reason = expr::refusal::reason_of(r);
-            if reason.number != 9 {
-                return ChainAnswer::Refused(r);
-            }
-            run_whole(words, width, work)
-        }
+    match chain::chain(words, width, &[], &mut work[..short]) {
+        Err(Refusal::OutputTooSmall) => run_whole(words, width, work),
+        answer => answer,
     }
 }
 
-// A line that is refused with this number.
-fn refused_line(totals: Totals, number: u32, out: &mut [u8]) -> Line
-    requires { (sound_totals totals ≡ true) × (totals.lines < 65535) × (102 ≤ length out.old) }
-    ensures { Printed (refused (refusal number)) totals out.old out.new result.put result.totals }
+// A line that is refused.
+fn refused_line(so_far: Ongoing, refusal: Refusal, out: &mut [u8]) -> Line
+    requires { 102 ≤ length out.old }
+    ensures { Printed (refused (reason_of refusal)) so_far.totals out.old out.new result.put result.totals }
 {
+    let totals = so_far.totals;
+    let number = Reason::from(refusal).number;
     let row = [totals.lines + 1, number as u64, 0, 0, 0, 0];
     Line {
         put: text::put_fields(&row, out),
         totals: Totals {
             lines: totals.lines + 1,
             refused: totals.refused + 1,
-            before: totals.before,
-            after: totals.after,
+            ..totals
         },
     }
 }
 
-// The frame of a tree's words, its 0a included; how many bytes that is.
-fn put_frame(words: &[u64], width: u32, out: &mut [u8]) -> usize
-    requires { Whole words.now × (length words.now ≤ 1024) × (9219 ≤ length out.old) }
-    ensures { Laid out.old out.new (frame width (tree_at words.now)) × (result ≡ length (frame width (tree_at words.now))) × (result ≤ 9219) }
-{
-    let last = 2 + 18 * (words.len() / 2);
-    hexadecimal::put_digits(width as u64, 2, out);
-    hexadecimal::put_nodes(words, &mut out[2..]);
-    out[last] = b'\n';
-    last + 1
-}
-
 // An accepted line, with the words of its tree and of its end tree.
 fn done_line(
-    totals: Totals,
+    so_far: Ongoing,
     width: u32,
     words: &[u64],
     end: &[u64],
     rewrites: usize,
     out: &mut [u8],
 ) -> Line
-    requires { (sound_totals totals ≡ true) × (totals.lines < 65535) × (9321 ≤ length out.old) × Whole words.now × Whole end.now × (length words.now ≤ 1024) × (length end.now ≤ 1024) }
-    ensures { Printed (accepted (done_by width words.now end.now rewrites)) totals out.old out.new result.put result.totals }
+    requires { (9321 ≤ length out.old) × Whole words.now × Whole end.now × (length words.now ≤ 1024) × (length end.now ≤ 1024) }
+    ensures { Printed (accepted (done_by width words.now end.now rewrites)) so_far.totals out.old out.new result.put result.totals }
 {
+    let totals = so_far.totals;
     let before = (words.len() / 2) as u64;
     let after = (end.len() / 2) as u64;
     let row = [
@@ -137,70 +108,49 @@ fn done_line(
         conditions(words),
     ];
     let k = text::put_fields(&row, out);
-    let m = put_frame(end, width, &mut out[k..]);
+    let m = frame::put_frame(end, width, &mut out[k..]).unwrap();
     Line {
         put: k + m,
         totals: Totals {
             lines: totals.lines + 1,
-            refused: totals.refused,
             before: totals.before + before,
             after: totals.after + after,
+            ..totals
         },
     }
 }
 
 // A line with these words at this width.
-fn chained_line(totals: Totals, width: u32, words: &[u64], work: &mut [u64], out: &mut [u8]) -> Line
-    requires { (sound_totals totals ≡ true) × (totals.lines < 65535) × (9321 ≤ length out.old) × (4096 ≤ length work.old) × (length words.now ≤ 1024) }
-    ensures { Printed (chained (width, words.now)) totals out.old out.new result.put result.totals }
-{
-    match run_chain(words, width, work) {
-        ChainAnswer::Refused(r) => {
-            let reason = expr::refusal::reason_of(r);
-            refused_line(totals, reason.number, out)
-        }
-        ChainAnswer::End(nodes, rewrites) => {
-            let end = 2 * nodes;
-            done_line(totals, width, words, &work[0..end], rewrites, out)
-        }
-    }
-}
-
-// Reads a line, its 0a not counted, into `words`, with no look at the tree: the chain checks it.
-fn read_line(line: &[u8], words: &mut [u64]) -> Read
-    requires { 1024 ≤ length words.old }
-    ensures { LineRead (line_words line.now) words.new result.width result.count }
-{
-    let nodes = frame::nodes_in(line.len());
-    if nodes == 0 {
-        return Read { width: 0, count: 0 };
-    }
-    let width = hexadecimal::number(&line[0..2]);
-    let good = hexadecimal::read_nodes(&line[2..], words);
-    if width.good & good {
-        return Read {
-            width: width.value as u32,
-            count: 2 * nodes,
-        };
-    }
-    Read { width: 0, count: 0 }
-}
-
-// A line, its 0a not counted.
-pub(crate) fn put_line(
-    totals: Totals,
-    line: &[u8],
-    words: &mut [u64],
+fn chained_line(
+    so_far: Ongoing,
+    width: u32,
+    words: &[u64],
     work: &mut [u64],
     out: &mut [u8],
 ) -> Line
-    requires { (sound_totals totals ≡ true) × (totals.lines < 65535) × (9321 ≤ length out.old) × (1024 ≤ length words.old) × (4096 ≤ length work.old) }
-    ensures { Printed (outcome_of line.now) totals out.old out.new result.put result.totals }
+    requires { (9321 ≤ length out.old) × (4096 ≤ length work.old) × (length words.now ≤ 1024) }
+    ensures { Printed (chained (width, words.now)) so_far.totals out.old out.new result.put result.totals }
 {
-    let read = read_line(line, words);
-    let count = read.count;
-    if count == 0 {
-        return refused_line(totals, 14, out);
+    match run_chain(words, width, work) {
+        Err(refusal) => refused_line(so_far, refusal, out),
+        Ok(end) => {
+            let tree = &work[..2 * end.nodes];
+            done_line(so_far, width, words, tree, end.rewrites, out)
+        }
     }
-    chained_line(totals, read.width, &words[0..count], work, out)
+}
+
+// A line, its 0a not counted.
+pub(crate) fn put_line(so_far: Ongoing, line: &[u8], scratch: &mut Scratch, out: &mut [u8]) -> Line
+    requires { 9321 ≤ length out.old }
+    ensures { Printed (outcome_of line.now) so_far.totals out.old out.new result.put result.totals }
+{
+    // with no look at the tree: the chain checks it
+    match frame::read_line(line, scratch.words) {
+        Err(refusal) => refused_line(so_far, refusal, out),
+        Ok(read) => {
+            let words = &scratch.words[..2 * read.nodes];
+            chained_line(so_far, read.width, words, scratch.work, out)
+        }
+    }
 }

@@ -21,10 +21,7 @@ fn put_field(n: u64, end: u8, out: &mut [u8]) -> usize
 fn field_end(done: usize, count: usize) -> u8
     ensures { result ≡ (if ltb done count then 32 else 10) }
 {
-    if done < count {
-        return b' ';
-    }
-    b'\n'
+    if done < count { b' ' } else { b'\n' }
 }
 
 // Numbers with one space between them and a line end behind the last; how many bytes that is.
@@ -33,12 +30,9 @@ pub(crate) fn put_fields(numbers: &[u64], out: &mut [u8]) -> usize
     ensures { Laid out.old out.new (fields numbers.now) × (result ≡ length (fields numbers.now)) × (result ≤ 102) }
 {
     let mut at = 0;
-    let mut i = 0;
-    while i < numbers.len() {
-        let n = numbers[i];
-        i += 1;
-        let end = field_end(i, numbers.len());
-        at += put_field(n, end, &mut out[at..]);
+    for (i, n) in numbers.iter().enumerate() {
+        let end = field_end(i + 1, numbers.len());
+        at += put_field(*n, end, &mut out[at..]);
     }
     at
 }
@@ -48,11 +42,7 @@ fn percentage(before: u64, after: u64) -> u64
     requires { (before ≤ 33553920) × (after ≤ 33553920) }
     ensures { result ≡ percentage_of before after }
 {
-    if before == 0 {
-        return 0;
-    }
-    let parts = 100 * after;
-    parts / before
+    (100 * after).checked_div(before).unwrap_or(0)
 }
 
 // The closing line.

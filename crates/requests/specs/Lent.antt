@@ -1,4 +1,4 @@
--- Words and bytes that are lent with marks. Definitions only.
+-- Places that are lent with marks. Definitions only.
 use Rattle.std.specs.Prelude.{◌≡◌, List, ℕ, ◌-◌, ◌%◌, ◌<◌, get_or}
 use Rattle.std.specs.Int.Bits.{bit_or}
 
@@ -10,6 +10,6 @@ word_mark i = bit_or i 11944390636716687360
 abbrev pub byte_mark : ℕ → ℕ
 byte_mark i = 255 - i % 128
 
--- so many of the first places have their marks
-pub record Marked (mark : ℕ → ℕ) (xs : List ℕ) (n : ℕ) : Type 0 where
-  pub each : (i : ℕ) → i < n → get_or xs i 0 ≡ mark i
+-- so many of the first places have their marks, whatever is read past the end
+pub record Marked {A : Type 0} (mark : ℕ → A) (xs : List A) (n : ℕ) : Type 0 where
+  pub each : (i : ℕ) (past : A) → i < n → get_or xs i past ≡ mark i

@@ -1,141 +1,105 @@
-// The words that a call is lent: they hold marks before the call, so that one which it writes without need shows.
-ghost use Rattle.std.specs.Prelude.{◌≡◌, ◌≤◌, ◌*◌, min, max, length};
-ghost use Rattle.requests.specs.Lent.{word_mark, Marked};
+// The places that a call is lent: they hold marks before the call, so that one which it writes without need shows.
+ghost use Rattle.std.specs.Prelude.{◌≡◌, ◌*◌, min, length, ℕ, IfSome};
+ghost use Rattle.requests.specs.Lent.{word_mark, byte_mark, Marked};
 
-use crate::output::{put, put_field};
+use crate::output::Output;
 
-// No stored tree has such a word; they differ from place to place.
-fn word_mark(i: usize) -> u64
-    ensures { result ≡ word_mark i }
-{
-    i as u64 | 0xa5c3_0000_0000_0000
+// What a lent place holds.
+pub trait Place: Copy + PartialEq + Into<u64> {
+    ghost mark_at: { ℕ → Self };
+
+    // The mark of a place.
+    fn mark(place: usize) -> Self
+        ensures { result ≡ mark_at place };
 }
 
-pub fn mark_words(words: &mut [u64])
-    ensures { Marked word_mark words.new (length words.old) }
-{
-    let mut i = 0;
-    while i < words.len() {
-        words[i] = word_mark(i);
-        i += 1;
+impl Place for u64 {
+    ghost mark_at = { word_mark };
+
+    // No stored tree has such a word; they differ from place to place.
+    fn mark(place: usize) -> u64 {
+        place as u64 | 0xa5c3_0000_0000_0000
     }
 }
 
-// The first place from `from` on whose mark is gone; where there is none, the length, or `from` if that is more.
-fn changed_word(words: &[u64], from: usize) -> usize {
-    let mut i = from;
-    while i < words.len() {
-        if words[i] != word_mark(i) {
-            return i;
-        }
-        i += 1;
+impl Place for u8 {
+    ghost mark_at = { byte_mark };
+
+    // Neither a digit nor a byte of a path; they differ from place to place.
+    fn mark(place: usize) -> u8 {
+        255 - (place % 128) as u8
     }
-    i
 }
 
-// The number of a place that lacks its mark or its 0, where it is one of so many; else `good`.
-pub fn put_place(
-    rt: &impl Print,
-    out: &mut [u8],
-    have: usize,
-    place: usize,
-    places: usize,
-    good: &[u8],
-) -> usize
-    ensures { result ≤ max have (length out.old) }
+// Puts its mark into each place.
+pub fn mark_places<T: Place>(places: &mut [T])
+    ensures { Marked T.mark_at places.new (length places.old) }
 {
-    if place < places {
-        return put_field(rt, out, have, place as u64);
+    for (i, place) in places.iter_mut().enumerate() {
+        *place = T::mark(i);
     }
-    put(rt, out, have, good)
 }
 
-// Whether the words from `from` on hold their marks.
-pub fn put_words_kept(
-    rt: &impl Print,
-    out: &mut [u8],
-    have: usize,
-    words: &[u64],
-    from: usize,
-) -> usize
-    ensures { result ≤ max have (length out.old) }
+// So many places of a room, with their marks; `None` where it has not so many.
+pub fn lend<T: Place>(room: &mut [T], size: u32) -> Option<&mut [T]>
+    ensures { IfSome result (λ places. (length places.now ≡ size) × Marked T.mark_at places.now size) }
 {
-    put_place(
-        rt,
-        out,
-        have,
-        changed_word(words, from),
-        words.len(),
-        b" kept",
-    )
+    let places = room.get_mut(..usize::try_from(size).ok()?)?;
+    mark_places(places);
+    Some(places)
 }
 
-// ` /` and the words.
-pub fn put_words(rt: &impl Print, out: &mut [u8], have: usize, words: &[u64]) -> usize
-    ensures { result ≤ max have (length out.old) }
-{
-    let mut waiting = put(rt, out, have, b" /");
-    let mut i = 0;
-    while i < words.len() {
-        waiting = put_field(rt, out, waiting, words[i]);
-        i += 1;
-    }
-    waiting
+// The first place from `from` on whose mark is gone.
+fn changed<T: Place>(places: &[T], from: usize) -> Option<usize> {
+    places
+        .iter()
+        .enumerate()
+        .skip(from)
+        .find(|(i, place)| **place != T::mark(*i))
+        .map(|(i, _)| i)
 }
 
 // The number of words of so many nodes, as far as they are lent.
 pub fn words_of(nodes: usize, words: &[u64]) -> usize
     ensures { result ≡ min (2 * nodes) (length words.now) }
 {
-    if words.len() / 2 < nodes {
-        return words.len();
+    nodes.saturating_mul(2).min(words.len())
+}
+
+impl<P: Print> Output<'_, P> {
+    // ` /` and the values.
+    pub fn put_list<T: Copy + Into<u64>>(&mut self, values: &[T]) {
+        self.put(b" /");
+        for value in values {
+            let n: u64 = (*value).into();
+            write!(self, " {n:x}");
+        }
     }
-    2 * nodes
-}
 
-// So many places, or as many as are lent.
-pub fn places_of(count: usize, lent: usize) -> usize
-    ensures { result ≡ min count lent }
-{
-    if lent < count {
-        return lent;
+    // A place that has not what it should have, else what is said where there is none.
+    pub fn put_place(&mut self, place: Option<usize>, good: &str) {
+        match place {
+            Some(place) => write!(self, " {place:x}"),
+            None => write!(self, " {good}"),
+        }
     }
-    count
-}
 
-// The words of so many nodes, and whether those behind them hold their marks.
-pub fn put_written(
-    rt: &impl Print,
-    out: &mut [u8],
-    have: usize,
-    nodes: usize,
-    words: &[u64],
-) -> usize
-    ensures { result ≤ max have (length out.old) }
-{
-    put_words_written(rt, out, have, words_of(nodes, words), words)
-}
+    // Whether the places from `from` on hold their marks.
+    pub fn put_kept<T: Place>(&mut self, places: &[T], from: usize) {
+        self.put_place(changed(places, from), "kept");
+    }
 
-// So many words, and whether those behind them hold their marks.
-pub fn put_words_written(
-    rt: &impl Print,
-    out: &mut [u8],
-    have: usize,
-    count: usize,
-    words: &[u64],
-) -> usize
-    ensures { result ≤ max have (length out.old) }
-{
-    let taken = places_of(count, words.len());
-    let listed = put_words(rt, out, have, &words[0..taken]);
-    let parted = put(rt, out, listed, b" /");
-    put_words_kept(rt, out, parted, words, taken)
-}
+    // So many values, and whether the places behind them hold their marks.
+    pub fn put_written<T: Place>(&mut self, count: usize, places: &[T]) {
+        let taken = count.min(places.len());
+        self.put_list(&places[..taken]);
+        self.put(b" /");
+        self.put_kept(places, taken);
+    }
 
-// Whether all words hold their marks.
-pub fn put_untouched(rt: &impl Print, out: &mut [u8], have: usize, words: &[u64]) -> usize
-    ensures { result ≤ max have (length out.old) }
-{
-    let parted = put(rt, out, have, b" /");
-    put_words_kept(rt, out, parted, words, 0)
+    // Whether all places hold their marks.
+    pub fn put_untouched<T: Place>(&mut self, places: &[T]) {
+        self.put(b" /");
+        self.put_kept(places, 0);
+    }
 }

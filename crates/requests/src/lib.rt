@@ -6,20 +6,14 @@ ghost use Rattle.std.specs.Prelude.{◌≡◌, length};
 
 pub mod input;
 pub mod lent;
-pub mod lent_bytes;
 pub mod output;
+pub mod replay;
 pub mod text;
+pub mod times;
 
-// Zeros for all of a program's input. The `ensures` gives only the length, which lending the array as a slice needs.
-pub fn input_buffer() -> [u8; 2097152]
-    ensures { 2097152 ≡ length result }
+// Zeros for an array whose length is too large to be computed. The `ensures` gives the length, which lending the array as a slice needs.
+pub fn zeros<T: Copy + Default, const N: usize>() -> [T; N]
+    ensures { N ≡ length result }
 {
-    [0; 2097152]
-}
-
-// Zeros for a list of bytes, in the same way.
-pub fn byte_buffer() -> [u8; text::MOST_BYTES]
-    ensures { 9472 ≡ length result }
-{
-    [0; text::MOST_BYTES]
+    [T::default(); N]
 }

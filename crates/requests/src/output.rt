@@ -1,91 +1,88 @@
-// Bytes to standard output, through a buffer. The first of them that wait to be written stand at its front; their number goes from one
-// call to the next. What is written cannot be said in a contract; how many bytes wait can: no more than the buffer has places, once a
-// byte is added.
-ghost use Rattle.std.specs.Prelude.{◌≡◌, ◌≤◌, max, leb, length, if◌then◌else◌};
+// Bytes to standard output, through a buffer. What is written cannot be said in a contract; what waits to be written can.
+ghost use Rattle.std.specs.Prelude.{◌≡◌, ◌≤◌, length, take};
+ghost use Rattle.requests.specs.Waiting.{waits_then};
 
-use expr::refusal::Refusal;
+use expr::refusal::{Reason, Refusal};
+use std::fmt;
+
+// The bytes that wait stand at the front of the buffer.
+#[derive(Drop)]
+pub struct Output<'a, P> {
+    rt: &'a P,
+    pub buffer: &'a mut [u8],
+    pub waiting: usize,
+    pub ghost fits: { waiting ≤ length buffer.now },
+}
+
+impl<'a, P: Print> Output<'a, P> {
+    pub fn new(rt: &'a P, buffer: &'a mut [u8]) -> Self
+        ensures waiting { result.waiting ≡ 0 }
+        ensures places { length result.buffer.now ≡ length buffer.old }
+    {
+        Output {
+            rt,
+            buffer,
+            waiting: 0,
+        }
+    }
+
+    // Adds bytes to those that wait. Where there is no room for them, what waits is written first.
+    pub fn put(&mut self, bytes: &[u8])
+        ensures places { length self.new.buffer.now ≡ length self.old.buffer.now }
+        ensures waiting { take self.new.waiting self.new.buffer.now
+            ≡ waits_then (length self.old.buffer.now) (take self.old.waiting self.old.buffer.now) bytes.now }
+    {
+        if self.buffer.len() - self.waiting < bytes.len() {
+            self.flush();
+        }
+        if self.buffer.len() < bytes.len() {
+            write(self.rt, bytes);
+            return;
+        }
+        let start = self.waiting;
+        let end = start + bytes.len();
+        self.buffer[start..end].copy_from_slice(bytes);
+        self.waiting = end;
+    }
+
+    // Writes the bytes that wait.
+    pub fn flush(&mut self)
+        ensures places { length self.new.buffer.now ≡ length self.old.buffer.now }
+        ensures waiting { self.new.waiting ≡ 0 }
+    {
+        write(self.rt, &self.buffer[..self.waiting]);
+        self.waiting = 0;
+    }
+
+    // What `write!` calls. It cannot fail.
+    pub fn write_fmt<D: fmt::Display + Drop>(&mut self, text: D) {
+        let _ = fmt::Write::write(self, text);
+    }
+}
+
+impl<P: Print> fmt::Write for Output<'_, P> {
+    fn write_str(&mut self, s: &str) -> fmt::Result {
+        self.put(s.as_bytes());
+        Ok(())
+    }
+}
 
 // All bytes to standard output. Where writing fails, what is left of them is passed over.
 fn write(rt: &impl Print, bytes: &[u8]) {
     let _ = rt.write_all(bytes);
 }
 
-// Writes `out` where no place in it is left, and answers how many bytes still wait.
-fn flush_full(rt: &impl Print, out: &[u8], have: usize) -> usize
-    ensures { result ≤ length out.now }
-{
-    if have < out.len() {
-        return have;
+// A refusal as an answer has it: its number and two values.
+#[derive(Clone, Copy)]
+pub struct Refused(pub Refusal);
+
+impl fmt::Display for Refused {
+    fn fmt<W: fmt::Write>(&self, f: &mut fmt::Formatter<W>) -> fmt::Result {
+        let reason = Reason::from(self.0);
+        write!(
+            f,
+            "refused {:x} {:x} {:x}",
+            reason.number, reason.first, reason.second
+        )
     }
-    write(rt, out);
-    0
-}
-
-// A buffer without any place loses the byte.
-fn put_byte(rt: &impl Print, out: &mut [u8], have: usize, byte: u8) -> usize
-    ensures { result ≤ length out.old }
-{
-    let waiting = flush_full(rt, out, have);
-    if waiting < out.len() {
-        out[waiting] = byte;
-        return waiting + 1;
-    }
-    waiting
-}
-
-// Adds bytes to the `have` that wait, and answers how many wait then.
-pub fn put(rt: &impl Print, out: &mut [u8], have: usize, bytes: &[u8]) -> usize
-    ensures { result ≤ max have (length out.old) }
-{
-    let mut waiting = have;
-    let mut i = 0;
-    while i < bytes.len() {
-        waiting = put_byte(rt, out, waiting, bytes[i]);
-        i += 1;
-    }
-    waiting
-}
-
-// The answer to a line that is no request; no stored answer is the same.
-pub fn no_request(rt: &impl Print, out: &mut [u8], have: usize) -> usize
-    ensures { result ≤ max have (length out.old) }
-{
-    put(rt, out, have, b"?")
-}
-
-pub fn put_hex(rt: &impl Print, out: &mut [u8], have: usize, n: u64) -> usize
-    ensures { result ≤ max have (length out.old) }
-{
-    let mut digits = [0u8; 16];
-    let k = io::hex(n, 1, &mut digits);
-    put(rt, out, have, &digits[..k])
-}
-
-// A space, and a number.
-pub fn put_field(rt: &impl Print, out: &mut [u8], have: usize, n: u64) -> usize
-    ensures { result ≤ max have (length out.old) }
-{
-    let spaced = put(rt, out, have, b" ");
-    put_hex(rt, out, spaced, n)
-}
-
-pub fn put_refusal(rt: &impl Print, out: &mut [u8], have: usize, refusal: Refusal) -> usize
-    ensures { result ≤ max have (length out.old) }
-{
-    let reason = expr::refusal::reason_of(refusal);
-    let named = put(rt, out, have, b"refused");
-    let number = put_field(rt, out, named, reason.number as u64);
-    let first = put_field(rt, out, number, reason.first as u64);
-    put_field(rt, out, first, reason.second as u64)
-}
-
-// Writes the bytes that wait, and answers how many wait then; a number past the buffer's end is answered as it is.
-pub fn flush(rt: &impl Print, out: &[u8], have: usize) -> usize
-    ensures { result ≡ (if leb have (length out.now) then 0 else have) }
-{
-    if have <= out.len() {
-        write(rt, &out[0..have]);
-        return 0;
-    }
-    have
 }

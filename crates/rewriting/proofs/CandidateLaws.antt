@@ -8,7 +8,10 @@ use mathlib.Core.List.{List, [], ◌∷◌, ◌++◌}
 use Rattle.std.proofs.Math.Option.{Option, none, some}
 use Prim.Native.Nat.{ℕ, zero, suc, ◌≤◌, ◌<◌}
 use Rattle.expr.specs.Outcome.{accepted}
-use Rattle.expr.specs.Expr.{Neg, Binary, Add, And, Or, Xor, Expr, leaf, unary, binary, encode, nodes, depth}
+use Rattle.expr.specs.Expr.{Expr, leaf, unary, binary, encode, nodes, depth}
+use Rattle.expr.specs.declared.kind.Unary.TheVariants.{Neg}
+use Rattle.expr.specs.declared.kind.Binary.{Binary}
+use Rattle.expr.specs.declared.kind.Binary.TheVariants.{Add, And, Or, Xor}
 use Rattle.expr.specs.ExprLaws.{nodes_pos}
 use Rattle.expr.specs.Parse.{operand_ok, operands_ok, parse}
 use Rattle.expr.specs.ParseLaws.{parse_sound, parse_encode}

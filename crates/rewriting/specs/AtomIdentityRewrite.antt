@@ -3,7 +3,12 @@
 use Rattle.std.specs.Prelude.{Bool, true, false, ◌&&◌, ◌||◌, List, [], ◌∷◌, ◌++◌, ℕ, ◌%◌, ◌^◌, eqb, length, if◌then◌else◌}
 use Rattle.std.proofs.Math.Bool as bool
 use Rattle.std.proofs.Math.Option.{Option, none, some}
-use Rattle.expr.specs.Expr.{Constant, Variable, Unary, Not, Neg, Shr, ZExt, SExt, Trunc, Binary, Add, Mul, And, Or, Xor, Expr, leaf, unary, binary, encode}
+use Rattle.expr.specs.Expr.{Expr, leaf, unary, binary, encode}
+use Rattle.expr.specs.declared.kind.Leaf.TheVariants.{Constant, Variable}
+use Rattle.expr.specs.declared.kind.Unary.{Unary}
+use Rattle.expr.specs.declared.kind.Unary.TheVariants.{Not, Neg, Shr, ZExt, SExt, Trunc}
+use Rattle.expr.specs.declared.kind.Binary.{Binary}
+use Rattle.expr.specs.declared.kind.Binary.TheVariants.{Add, Mul, And, Or, Xor}
 use Rattle.expr.specs.SameWords.{same_words}
 use Rattle.rewriting.specs.Optional.{only_if, map, ◌and_then◌, ◌or_else◌}
 use Rattle.rewriting.specs.AtomSimplifier.{not, is_not_kind, same_kind}

@@ -5,7 +5,11 @@ use Rattle.std.proofs.Math.Path.{refl, ap, ap₂}
 use Rattle.std.proofs.Common.{subst, ◌∙◌, arith}
 use Rattle.std.proofs.Math.Option.{Option, none, some}
 use Rattle.arith.specs.ChoiceLaws.{if_yes}
-use Rattle.expr.specs.Expr.{Leaf, Unary, Not, Binary, Expr, leaf, unary, binary, nodes}
+use Rattle.expr.specs.Expr.{Expr, leaf, unary, binary, nodes}
+use Rattle.expr.specs.declared.kind.Leaf.{Leaf}
+use Rattle.expr.specs.declared.kind.Unary.{Unary}
+use Rattle.expr.specs.declared.kind.Unary.TheVariants.{Not}
+use Rattle.expr.specs.declared.kind.Binary.{Binary}
 use Rattle.expr.specs.SubtreeLaws.{◌IsIn◌, itself, in_child_lem, in_left, in_right}
 use Rattle.rewriting.specs.Optional.{map, ◌or_else◌}
 use Rattle.rewriting.specs.OptionalLaws.{neither, not_both, only_one}

@@ -15,7 +15,11 @@ use Rattle.arith.specs.ChoiceLaws.{if_yes, if_no}
 use Rattle.arith.specs.BvLaws.{xor_and}
 use Rattle.arith.specs.SumLaws as S
 use Rattle.arith.specs.SumLaws.{Diff, diff_plain, diff_add, diff_neg, diff_unreduced, diff_value, or_minus_and, and_minus_or, ornot_minus_not, not_minus_ornot, flat_or_not}
-use Rattle.expr.specs.Expr.{Constant, Variable, Unary, Binary, Add, Expr, leaf, unary, binary}
+use Rattle.expr.specs.Expr.{Expr, leaf, unary, binary}
+use Rattle.expr.specs.declared.kind.Leaf.TheVariants.{Constant, Variable}
+use Rattle.expr.specs.declared.kind.Unary.{Unary}
+use Rattle.expr.specs.declared.kind.Binary.{Binary}
+use Rattle.expr.specs.declared.kind.Binary.TheVariants.{Add}
 use Rattle.value.specs.Value.{unary_value, binary_value, value}
 use Rattle.value.specs.ValueLaws.{value_lt}
 use Rattle.rewriting.specs.OptionalLaws.{Every, if_case, every_at, every_on}

@@ -4,7 +4,11 @@ use Rattle.std.proofs.Common.{sym, ap, subst, ◌∙◌, le_refl, le_trans, arit
 use Rattle.std.proofs.Math.Bool.{and-eq-true_iff}
 use Rattle.std.proofs.Math.Option.{some}
 use Rattle.std.specs.Float.Ieee.Bits.{is_true}
-use Rattle.expr.specs.Expr.{Unary, Not, Binary, And, Or, Expr, unary, binary, unary_number, unary_operand, nodes, depth}
+use Rattle.expr.specs.Expr.{Expr, unary, binary, unary_number, unary_operand, nodes, depth}
+use Rattle.expr.specs.declared.kind.Unary.{Unary}
+use Rattle.expr.specs.declared.kind.Unary.TheVariants.{Not}
+use Rattle.expr.specs.declared.kind.Binary.{Binary}
+use Rattle.expr.specs.declared.kind.Binary.TheVariants.{And, Or}
 use Rattle.expr.specs.Parse.{operand_ok, operands_ok, Valid}
 use Rattle.value.specs.Value.{unary_value, binary_value, value, is_lent}
 use Rattle.width.specs.Width.{unary_keeps, binary_keeps, is_uniform_width}

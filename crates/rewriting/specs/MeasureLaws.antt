@@ -2,7 +2,11 @@
 use Rattle.std.specs.Prelude.{◌≡◌, refl, ◌⊎◌, ℕ, ◌+◌, ◌*◌, ◌≤◌, ◌<◌}
 use Rattle.std.proofs.Common.{inl, inr, le_refl, arith}
 use Rattle.std.proofs.Math.Option.{some}
-use Rattle.expr.specs.Expr.{Unary, Not, Neg, Shr, ZExt, SExt, Trunc, Binary, Add, Mul, And, Or, Xor, Concat, Expr, leaf, unary, binary, nodes, depth}
+use Rattle.expr.specs.Expr.{Expr, leaf, unary, binary, nodes, depth}
+use Rattle.expr.specs.declared.kind.Unary.{Unary}
+use Rattle.expr.specs.declared.kind.Unary.TheVariants.{Not, Neg, Shr, ZExt, SExt, Trunc}
+use Rattle.expr.specs.declared.kind.Binary.{Binary}
+use Rattle.expr.specs.declared.kind.Binary.TheVariants.{Add, Mul, And, Or, Xor, Concat}
 use Rattle.expr.specs.ExprLaws.{nodes_pos, depth_pos}
 use Rattle.rewriting.specs.AtomSimplifier.{local_rewrite, first_rewrite}
 use Rattle.rewriting.specs.Measures.{and_or, and_ors_of, pairs, D}

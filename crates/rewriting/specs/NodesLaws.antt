@@ -5,7 +5,10 @@ use Rattle.std.proofs.Common.{◌∙◌, arith}
 use Rattle.std.proofs.Math.Logic.{⊎_elim}
 use Rattle.std.proofs.Math.Option.{Option, none, some}
 use Rattle.std.proofs.Math.Facts.{or_yes}
-use Rattle.expr.specs.Expr.{Unary, Not, Binary, Expr, leaf, unary, binary, nodes}
+use Rattle.expr.specs.Expr.{Expr, leaf, unary, binary, nodes}
+use Rattle.expr.specs.declared.kind.Unary.{Unary}
+use Rattle.expr.specs.declared.kind.Unary.TheVariants.{Not}
+use Rattle.expr.specs.declared.kind.Binary.{Binary}
 use Rattle.rewriting.specs.AtomSimplifier.{not, is_not, local_rewrite, first_rewrite}
 use Rattle.rewriting.specs.TestLaws.{not_kind→eq}
 use Rattle.rewriting.specs.ShapeLaws.{over, Change, less, turned_over, local_change}

@@ -8,7 +8,11 @@ use native.Mathlib.Omega.{arith}
 use Rattle.std.proofs.Math.Dec.{not_T}
 use Rattle.arith.specs.Bv.{ones}
 use Rattle.arith.specs.ChoiceLaws.{if_yes, if_no}
-use Rattle.expr.specs.Expr.{Unary, Not, Neg, Shr, ZExt, SExt, Trunc, Binary, Add, Mul, And, Or, Xor, Concat, Expr, leaf, unary, binary, nodes}
+use Rattle.expr.specs.Expr.{Expr, leaf, unary, binary, nodes}
+use Rattle.expr.specs.declared.kind.Unary.{Unary}
+use Rattle.expr.specs.declared.kind.Unary.TheVariants.{Not, Neg, Shr, ZExt, SExt, Trunc}
+use Rattle.expr.specs.declared.kind.Binary.{Binary}
+use Rattle.expr.specs.declared.kind.Binary.TheVariants.{Add, Mul, And, Or, Xor, Concat}
 use Rattle.expr.specs.ExprLaws.{nodes_pos}
 use Rattle.rewriting.specs.Optional.{◌and_then◌, ◌or_else◌, ◌equals_some◌}
 use Rattle.rewriting.specs.OptionalLaws.{Every, if_case, every_only_if, every_at}

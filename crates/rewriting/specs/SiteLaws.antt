@@ -6,7 +6,9 @@ use Rattle.std.proofs.Common.{◌∙◌, arith}
 use mathlib.Core.List.{List, [], ◌∷◌, ◌++◌, append_assoc, append-nil}
 use Rattle.std.proofs.Math.Option.{Option, none, some}
 use Prim.Native.Nat.{ℕ, zero, suc, ◌+◌, ◌≤◌, ◌<◌}
-use Rattle.expr.specs.Expr.{Unary, Binary, Expr, leaf, unary, binary, unary_number, unary_operand, binary_number, encode, nodes, depth}
+use Rattle.expr.specs.Expr.{Expr, leaf, unary, binary, unary_number, unary_operand, binary_number, encode, nodes, depth}
+use Rattle.expr.specs.declared.kind.Unary.{Unary}
+use Rattle.expr.specs.declared.kind.Binary.{Binary}
 use Rattle.expr.specs.ExprLaws.{depth_pos}
 use Rattle.rewriting.specs.Optional.{map, ◌and_then◌}
 use Rattle.rewriting.specs.OptionalLaws.{Every, every_at, neither, map_none, Both, both_or_else, both_on, both_and_then, both_first, both_second}

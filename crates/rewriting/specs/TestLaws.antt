@@ -5,7 +5,11 @@ use Rattle.std.proofs.Math.Path.{ap}
 use Rattle.std.proofs.Math.Option.{Option, some}
 use Rattle.std.proofs.Math.Dec.{eqb_refl}
 use Rattle.std.proofs.Math.Facts.{and_yes}
-use Rattle.expr.specs.Expr.{Constant, Variable, Unary, Not, Neg, Shr, ZExt, SExt, Trunc, Binary, Expr, leaf, unary, binary, unary_number, binary_number}
+use Rattle.expr.specs.Expr.{Expr, leaf, unary, binary, unary_number, binary_number}
+use Rattle.expr.specs.declared.kind.Leaf.TheVariants.{Constant, Variable}
+use Rattle.expr.specs.declared.kind.Unary.{Unary}
+use Rattle.expr.specs.declared.kind.Unary.TheVariants.{Not, Neg, Shr, ZExt, SExt, Trunc}
+use Rattle.expr.specs.declared.kind.Binary.{Binary}
 use Rattle.expr.specs.KindLaws.{same_binary}
 use Rattle.expr.specs.SameWordsLaws.{same→tree, tree→same}
 use Rattle.rewriting.specs.Optional.{◌equals_some◌}

@@ -11,7 +11,11 @@ use Rattle.std.specs.Int.Bits.{and_comm, or_comm, xor_comm, and_self, or_self, a
 use Rattle.std.proofs.Math.Facts.{and_yes, or_yes}
 use Rattle.arith.specs.Bv.{ones, bvand, bvor, bvxor, bvnot}
 use Rattle.arith.specs.BvLaws as L
-use Rattle.expr.specs.Expr.{Unary, Not, Neg, Shr, ZExt, SExt, Trunc, Binary, Add, Mul, And, Or, Xor, Concat, Expr, leaf, unary, binary}
+use Rattle.expr.specs.Expr.{Expr, leaf, unary, binary}
+use Rattle.expr.specs.declared.kind.Unary.{Unary}
+use Rattle.expr.specs.declared.kind.Unary.TheVariants.{Not, Neg, Shr, ZExt, SExt, Trunc}
+use Rattle.expr.specs.declared.kind.Binary.{Binary}
+use Rattle.expr.specs.declared.kind.Binary.TheVariants.{Add, Mul, And, Or, Xor, Concat}
 use Rattle.value.specs.Value.{unary_value, binary_value, value}
 use Rattle.value.specs.ValueLaws.{value_lt}
 use Rattle.rewriting.specs.Optional.{◌equals_some◌}

@@ -1,2 +1,2 @@
 pub mod NodeLaws
-pub mod WalkLaws
+pub mod CallLaws

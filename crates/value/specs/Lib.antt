@@ -1,4 +1,3 @@
 pub mod Value
-pub mod Answers
 pub mod Promises
 pub mod ValueLaws

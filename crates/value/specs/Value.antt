@@ -3,7 +3,12 @@ use Rattle.std.specs.Prelude.{Bool, true, ◌&&◌, List, ℕ, ◌%◌, ◌^◌,
 use Rattle.arith.specs.Bv.{bvadd, bvmul, bvand, bvor, bvxor, bvnot, bvneg, bvlshr}
 use Rattle.expr.specs.Refusals.{refusal}
 use Rattle.expr.specs.Outcome.{Outcome, refused, accepted, ◌and_then◌}
-use Rattle.expr.specs.Expr.{Constant, Variable, Unary, Not, Neg, Shr, ZExt, SExt, Trunc, Binary, Add, Mul, And, Or, Xor, Concat, Expr, leaf, unary, binary}
+use Rattle.expr.specs.Expr.{Expr, leaf, unary, binary}
+use Rattle.expr.specs.declared.kind.Leaf.TheVariants.{Constant, Variable}
+use Rattle.expr.specs.declared.kind.Unary.{Unary}
+use Rattle.expr.specs.declared.kind.Unary.TheVariants.{Not, Neg, Shr, ZExt, SExt, Trunc}
+use Rattle.expr.specs.declared.kind.Binary.{Binary}
+use Rattle.expr.specs.declared.kind.Binary.TheVariants.{Add, Mul, And, Or, Xor, Concat}
 use Rattle.width.specs.Width.{is_uniform_width}
 use Rattle.width.specs.Checked.{checked}
 

@@ -14,7 +14,12 @@ use Rattle.width.specs.Width.{is_uniform_width}
 use Rattle.width.specs.WidthLaws.{in_range, supported_is}
 use Rattle.width.specs.Checked.{checked}
 use Rattle.width.specs.CheckedLaws.{checked_is}
-use Rattle.expr.specs.Expr.{Constant, Variable, Unary, Not, Neg, Shr, ZExt, SExt, Trunc, Binary, Add, Mul, And, Or, Xor, Concat, Expr, leaf, unary, binary}
+use Rattle.expr.specs.Expr.{Expr, leaf, unary, binary}
+use Rattle.expr.specs.declared.kind.Leaf.TheVariants.{Constant, Variable}
+use Rattle.expr.specs.declared.kind.Unary.{Unary}
+use Rattle.expr.specs.declared.kind.Unary.TheVariants.{Not, Neg, Shr, ZExt, SExt, Trunc}
+use Rattle.expr.specs.declared.kind.Binary.{Binary}
+use Rattle.expr.specs.declared.kind.Binary.TheVariants.{Add, Mul, And, Or, Xor, Concat}
 use Rattle.value.specs.Value.{unary_value, binary_value, value, uniform, one_width_of}
 
 module _ (w : ℕ) where

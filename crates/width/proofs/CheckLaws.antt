@@ -4,12 +4,10 @@ use mathlib.Core.Bool.{Bool, true, false, not}
 use mathlib.Core.List.{List}
 use Prim.Native.Nat.{ℕ}
 use borrow.Author.Tests.{not-true, not-false}
-use Rattle.expr.specs.declared.Counted.{Counted}
 use Rattle.expr.specs.Refusals.{refusal}
-use Rattle.expr.specs.Outcome.{refused, mapped}
+use Rattle.expr.specs.Outcome.{Outcome, refused, mapped}
 use Rattle.expr.specs.Expr.{nodes}
 use Rattle.expr.specs.Parse.{parse}
-use Rattle.expr.specs.Answers.{counted_outcome}
 use Rattle.width.specs.Width.{supported}
 use Rattle.width.specs.Checked.{checked}
 
@@ -18,7 +16,7 @@ module _ (w : ℕ) (ws : List ℕ) (b : Bool) (e : b ≡ supported w) where
   unfolding checked
   out_of_range f = rw (sym e ∙ not-true b f)
 
-  pub words_checked : not b ≡ false → (x : Counted) → counted_outcome x ≡ mapped nodes (parse ws) → counted_outcome x ≡ mapped nodes (checked w ws)
+  pub words_checked : not b ≡ false → (x : Outcome ℕ) → x ≡ mapped nodes (parse ws) → x ≡ mapped nodes (checked w ws)
   unfolding checked
   words_checked f x g = rw (sym e ∙ not-false b f) g
 

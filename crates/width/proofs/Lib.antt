@@ -1,5 +1,2 @@
-pub mod KindLaws
-pub mod NodeLaws
-pub mod WalkLaws
-pub mod UniformWalkLaws
 pub mod CheckLaws
+pub mod NodeLaws

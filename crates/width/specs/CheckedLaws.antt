@@ -1,16 +1,13 @@
 -- What follows a check at a width, and one of the room. Assumes nothing.
 use Rattle.std.specs.Prelude.{◌≡◌, true, List, ℕ, ◌≤◌, ◌<◌, ltb}
-use Rattle.std.proofs.Common.{sym, ◌∙◌, arith, lt-ltb, le-ltb, ltb-false}
+use Rattle.std.proofs.Common.{◌∙◌, arith, lt-ltb, le-ltb, ltb-false}
 use Rattle.std.proofs.Math.Path.{ap, subst}
-use Rattle.expr.specs.declared.Counted.{Counted}
-use Rattle.expr.specs.declared.Counted.TheVariants as counted
 use Rattle.expr.specs.Refusals.{refusal}
 use Rattle.expr.specs.Outcome.{Outcome, refused, accepted, mapped, ◌and_then◌}
 use Rattle.expr.specs.OutcomeLaws.{same_answer, if_came, else_came, then_accepted, mapped_made, then_came}
 use Rattle.expr.specs.Expr.{Expr, encode, nodes, depth}
 use Rattle.expr.specs.Parse.{parse}
 use Rattle.expr.specs.ParseLaws.{parse_sound}
-use Rattle.expr.specs.Answers.{counted_outcome}
 use Rattle.expr.specs.Front.{Exactly}
 use Rattle.width.specs.Width.{supported}
 use Rattle.width.specs.WidthLaws.{supported_is}
@@ -29,9 +26,9 @@ pub record Tree (w : ℕ) (ws : List ℕ) (n : ℕ) : Type 0 where
   pub count : nodes tree ≡ n
   pub few : n ≤ 512
 
-pub checked_tree : (w : ℕ) (ws : List ℕ) (x : Counted) → counted_outcome x ≡ mapped nodes (checked w ws) → (n : ℕ) → x ≡ counted.Count n → Tree w ws n
-checked_tree w ws x h n e =
-    let m = mapped_made nodes (checked w ws) (ap counted_outcome (sym e) ∙ h) in
+pub checked_tree : (w : ℕ) (ws : List ℕ) (n : ℕ) → accepted n ≡ mapped nodes (checked w ws) → Tree w ws n
+checked_tree w ws n e =
+    let m = mapped_made nodes (checked w ws) e in
     let a = parse_sound ws m.answer (checked_is w ws m.answer m.was).1 in
     record { tree = m.answer; is = m.was; words = a.words; count = m.made; few = omega (arith, m.made, a.valid.count) }
 

@@ -1,6 +1,5 @@
 pub mod Width
 pub mod Checked
-pub mod Answers
 pub mod Promises
 pub mod WidthLaws
 pub mod CheckedLaws

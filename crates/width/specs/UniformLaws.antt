@@ -5,7 +5,12 @@ use Rattle.std.proofs.Common.{◌∙◌, arith, eqb-true, eq-eqb}
 use Rattle.arith.specs.ChoiceLaws.{both_true}
 use Rattle.expr.specs.Outcome.{Outcome, accepted, ◌and_then◌}
 use Rattle.expr.specs.OutcomeLaws.{then_accepted}
-use Rattle.expr.specs.Expr.{Constant, Variable, Unary, Not, Neg, Shr, ZExt, SExt, Trunc, Binary, Add, Mul, And, Or, Xor, Concat, Expr, leaf, unary, binary}
+use Rattle.expr.specs.Expr.{Expr, leaf, unary, binary}
+use Rattle.expr.specs.declared.kind.Leaf.TheVariants.{Constant, Variable}
+use Rattle.expr.specs.declared.kind.Unary.{Unary}
+use Rattle.expr.specs.declared.kind.Unary.TheVariants.{Not, Neg, Shr, ZExt, SExt, Trunc}
+use Rattle.expr.specs.declared.kind.Binary.{Binary}
+use Rattle.expr.specs.declared.kind.Binary.TheVariants.{Add, Mul, And, Or, Xor, Concat}
 use Rattle.width.specs.WidthLaws.{ranged_yes}
 use Rattle.width.specs.Width.{supported, ranged, valid, unary_width, binary_width, checked_width_of, unary_rule, agree, binary_rule, validate_widths, unary_keeps, binary_keeps, is_uniform_width}
 

@@ -2,7 +2,12 @@
 use Rattle.std.specs.Prelude.{Bool, true, false, ◌&&◌, List, ℕ, ◌+◌, leb, ltb, eqb, get_or, if◌then◌else◌}
 use Rattle.expr.specs.Refusals.{carrying}
 use Rattle.expr.specs.Outcome.{Outcome, refused, accepted, ◌and_then◌}
-use Rattle.expr.specs.Expr.{Constant, Variable, Unary, Not, Neg, Shr, ZExt, SExt, Trunc, Binary, Add, Mul, And, Or, Xor, Concat, Expr, leaf, unary, binary}
+use Rattle.expr.specs.Expr.{Expr, leaf, unary, binary}
+use Rattle.expr.specs.declared.kind.Leaf.TheVariants.{Constant, Variable}
+use Rattle.expr.specs.declared.kind.Unary.{Unary}
+use Rattle.expr.specs.declared.kind.Unary.TheVariants.{Not, Neg, Shr, ZExt, SExt, Trunc}
+use Rattle.expr.specs.declared.kind.Binary.{Binary}
+use Rattle.expr.specs.declared.kind.Binary.TheVariants.{Add, Mul, And, Or, Xor, Concat}
 
 -- a width is one of 1 to 64
 unfoldable pub supported : ℕ → Bool

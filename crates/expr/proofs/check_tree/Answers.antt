@@ -8,14 +8,14 @@ ruleset laws = (rules, count_refused, tree_refused, left_over, all_read, words_f
 pub returns-then-not-word_count_ok : goal.returns-then-not-word_count_ok
 returns-then-not-word_count_ok c = search laws
 
+pub returns-in_err-m : goal.returns-in_err-m
+returns-in_err-m c = search (laws, c.in_err-m.ensures)
+
 pub overflow_mul-m : goal.overflow_mul-m
-overflow_mul-m c = search laws
+overflow_mul-m c = search (laws, c.in_ok-m.ensures)
 
 pub returns-then-m-n : goal.returns-then-m-n
-returns-then-m-n c = search laws
+returns-then-m-n c = search (laws, c.in_ok-m.ensures)
 
-pub returns-in-Refused : goal.returns-in-Refused
-returns-in-Refused c = search laws
-
-pub returns-else-m-n : goal.returns-else-m-n
-returns-else-m-n c = search laws
+pub returns : goal.returns
+returns c = search (laws, c.in_ok-m.ensures)

@@ -6,5 +6,5 @@ use Rattle.expr.proofs.has_var_dep.Goals as goal
 
 ruleset laws = (rules, turned_down, dep_known)
 
-pub returns-in-Count : goal.returns-in-Count
-returns-in-Count c = search laws
+pub returns : goal.returns
+returns c = search (laws, c.in_ok-check_tree.ensures)

@@ -1,11 +1,10 @@
--- `expr::has_variable` meets its contract. The measure is what is left of the words. Assumes nothing.
+-- `expr::has_variable` meets its contract. Assumes nothing.
 use Prim.Native.Nat.{◌-◌}
-use lib.ListN.{length}
 use Rattle.expr.proofs.VariableLaws.{Looking}
 use Rattle.expr.proofs.has_variable.Given as goal
 
-abbrev pub invariant-loop-i : goal.invariant-loop-i
-invariant-loop-i l = Looking l.words l.i
+abbrev pub invariant-loop-at : goal.invariant-loop-at
+invariant-loop-at l = Looking l.words l.at
 
-abbrev pub decreases-loop-i : goal.decreases-loop-i
-decreases-loop-i l = length l.words - l.i
+abbrev pub decreases-loop-at : goal.decreases-loop-at
+decreases-loop-at l = l.at-end - l.at

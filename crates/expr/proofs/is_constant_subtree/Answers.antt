@@ -5,5 +5,5 @@ use Rattle.expr.proofs.is_constant_subtree.Goals as goal
 
 ruleset laws = (rules, turned_round)
 
-pub returns-in-Known : goal.returns-in-Known
-returns-in-Known c = search laws
+pub returns : goal.returns
+returns c = search (laws, c.in_ok-dep.ensures)

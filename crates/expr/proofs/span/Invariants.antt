@@ -1,11 +1,10 @@
 -- `expr::span` meets its contract. The measure is what is left of the words. Assumes nothing.
-use Prim.Native.Nat.{◌-◌}
-use lib.ListN.{length}
+use Prim.Native.Nat.{◌-◌, ◌<◌}
 use Rattle.expr.proofs.DueLaws.{Going}
 use Rattle.expr.proofs.span.Given as goal
 
-abbrev pub invariant-loop-due : goal.invariant-loop-due
-invariant-loop-due l = Going l.words l.due l.at
+abbrev pub invariant-loop-at : goal.invariant-loop-at
+invariant-loop-at l = Going l.words l.due l.at × (0 < l.due)
 
-abbrev pub decreases-loop-due : goal.decreases-loop-due
-decreases-loop-due l = length l.words - l.at
+abbrev pub decreases-loop-at : goal.decreases-loop-at
+decreases-loop-at l = l.at-end - l.at

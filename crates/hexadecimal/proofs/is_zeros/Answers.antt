@@ -1,12 +1,15 @@
--- `hexadecimal::is_zeros` meets its contract. The measure is what is left of the bytes. Assumes nothing.
+-- `hexadecimal::is_zeros` meets its contract. Assumes nothing.
 use borrow.Author.Rules.{rules}
 use Rattle.hexadecimal.proofs.OperandLaws.{testing}
 use Rattle.hexadecimal.proofs.is_zeros.Goals as goal
 
 ruleset laws = (rules, testing)
 
-pub loop-i-init : goal.loop-i-init
-loop-i-init c = search laws
+pub loop-b-init : goal.loop-b-init
+loop-b-init c = search laws
 
-pub loop-i-preserved : goal.loop-i-preserved
-loop-i-preserved c = search laws
+pub loop-b-preserved : goal.loop-b-preserved
+loop-b-preserved c = search laws
+
+pub returns : goal.returns
+returns c = search laws

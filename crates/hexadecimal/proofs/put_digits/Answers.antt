@@ -1,4 +1,4 @@
--- `hexadecimal::put_digits` meets its contract. The measure is how many digits are left. Assumes nothing.
+-- `hexadecimal::put_digits` meets its contract. Assumes nothing.
 use borrow.Author.Rules.{rules}
 use Rattle.hexadecimal.proofs.NumberLaws.{putting}
 use Rattle.hexadecimal.proofs.put_digits.Goals as goal

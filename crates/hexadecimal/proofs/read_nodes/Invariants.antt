@@ -1,10 +1,6 @@
--- `hexadecimal::read_nodes` meets its contract. The measure is how many nodes are left. Assumes nothing.
-use Prim.Native.Nat.{◌-◌}
+-- `hexadecimal::read_nodes` meets its contract. Assumes nothing.
 use Rattle.hexadecimal.proofs.TurnLaws.{Filling}
 use Rattle.hexadecimal.proofs.read_nodes.Given as goal
 
 abbrev pub invariant-loop-i : goal.invariant-loop-i
-invariant-loop-i l = Filling l.s l.initial.out l.count l.out l.good l.i
-
-abbrev pub decreases-loop-i : goal.decreases-loop-i
-decreases-loop-i l = l.count - l.i
+invariant-loop-i l = Filling l.s l.initial.out l.out l.good l.i

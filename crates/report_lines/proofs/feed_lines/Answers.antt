@@ -1,6 +1,6 @@
--- `report_lines::feed_lines` meets its contract. The measure is what is left of the chunk. Assumes nothing.
-use Rattle.report_lines.proofs.FeedLaws.{feeding}
+-- `report_lines::feed_lines` meets its contract. Assumes nothing.
 use Rattle.arith.specs.NeedLaws.{basics}
+use Rattle.report_lines.proofs.FeedLaws.{feeding}
 use Rattle.report_lines.proofs.feed_lines.Goals as goal
 
 ruleset laws = (basics, feeding)

@@ -1,10 +1,7 @@
--- What reading the addends up to `at` has made of s.
-use Rattle.std.proofs.Common.{◌-◌, ◌≤◌, take}
-use Rattle.atom_identity_rewrite.specs.Promises.{Carried}
+-- What reading the addends up to a has made of the start.
+use Rattle.std.proofs.Common.{take}
+use Rattle.atom_identity_rewrite.specs.Promises.{ReadAll}
 use Rattle.atom_identity_rewrite.proofs.addends.scan.Given as goal
 
-abbrev pub invariant-loop-at : goal.invariant-loop-at
-invariant-loop-at l = record { within : l.at ≤ l.n; so_far : Carried l.words (take l.at l.list) l.fn.s l.t }
-
-abbrev pub decreases-loop-at : goal.decreases-loop-at
-decreases-loop-at l = l.n - l.at
+abbrev pub invariant-loop-a : goal.invariant-loop-a
+invariant-loop-a g l = ReadAll l.words (take l.a-index l.list) (goal.F-post g l.read) l.fn.start l.state

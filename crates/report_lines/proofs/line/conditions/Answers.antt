@@ -1,12 +1,15 @@
--- `report_lines::line::conditions` meets its contract. The measure is the number of words left. Assumes nothing.
-use Rattle.report_lines.proofs.ConditionsLaws.{finding}
+-- `report_lines::line::conditions` meets its contract. Assumes nothing.
 use Rattle.arith.specs.NeedLaws.{basics}
+use Rattle.report_lines.proofs.ConditionsLaws.{finding}
 use Rattle.report_lines.proofs.line.conditions.Goals as goal
 
 ruleset laws = (basics, finding)
 
 pub raised-found-requires : goal.raised-found-requires
 raised-found-requires c = search laws
+
+pub loop-i-init : goal.loop-i-init
+loop-i-init c = search laws
 
 pub loop-i-preserved : goal.loop-i-preserved
 loop-i-preserved c = search laws

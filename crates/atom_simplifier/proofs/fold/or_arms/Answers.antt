@@ -1,0 +1,18 @@
+-- `atom_simplifier::fold::or_arms` meets its contract. Assumes nothing.
+use Rattle.arith.specs.NeedLaws.{basics}
+use Rattle.atom_simplifier.proofs.ArmLaws.{arm}
+use Rattle.atom_simplifier.proofs.fold.or_arms.Goals as goal
+
+ruleset laws = (basics, arm)
+
+pub returns-then-are_complements : goal.returns-then-are_complements
+returns-then-are_complements c = search laws
+
+pub returns-then-contains_operand : goal.returns-then-contains_operand
+returns-then-contains_operand c = search laws
+
+pub returns-then-contains_operand-2 : goal.returns-then-contains_operand-2
+returns-then-contains_operand-2 c = search laws
+
+pub returns : goal.returns
+returns c = search laws

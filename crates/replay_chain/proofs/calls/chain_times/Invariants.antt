@@ -1,9 +1,0 @@
--- The count goes up to `times`.
-use Rattle.std.proofs.Common.{length, ◌-◌, ◌≡◌, ◌≤◌}
-use Rattle.replay_chain.proofs.calls.chain_times.Given as goal
-
-abbrev pub invariant-loop-done : goal.invariant-loop-done
-invariant-loop-done l = (length l.work ≡ length l.initial.work) × (1 ≤ l.done)
-
-abbrev pub decreases-loop-done : goal.decreases-loop-done
-decreases-loop-done l = l.times - l.done
