@@ -34,7 +34,7 @@ use Rattle.expr.specs.TailLaws.{tail_drop, length_tail}
 use Rattle.expr.specs.Front.{Front, Starts, Whole, tree_at}
 use Rattle.expr.specs.FrontLaws.{UnaryNode, BinaryNode, unary_node, binary_node}
 use Rattle.expr.specs.PartLaws.{front_tree, starts_front, exact_front, exact_length}
-use Rattle.rewriting.specs.AtomSimplifier.{same_kind}
+use Rattle.expr.specs.Trees.{same_kind}
 use Rattle.rewriting.specs.MatchLaws.{neg_number}
 use Rattle.rewriting.specs.AtomIdentityRewrite as def
 use Rattle.rewriting.specs.AtomIdentityRewrite.{is_neg_kind, push_addend, flatten_addends}

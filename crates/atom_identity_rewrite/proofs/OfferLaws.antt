@@ -5,10 +5,11 @@ use Rattle.std.proofs.Math.Option as option
 use Rattle.std.proofs.Math.Option.{none, some}
 use Rattle.expr.specs.Expr.{Expr}
 use Rattle.expr.specs.declared.kind.Binary.TheVariants.{Or}
-use Rattle.rewriting.specs.Optional.{◌or_else◌}
-use Rattle.rewriting.specs.OptionalLaws.{not_both}
+use Rattle.expr.specs.Optional.{◌or_else◌}
+use Rattle.expr.specs.OptionalLaws.{not_both}
 use Rattle.rewriting.specs.AtomIdentityRewrite as def
-use Rattle.rewriting.specs.AtomIdentityRewrite.{operands_of, is_constant_node, or_in_product, to_list, lax_and_of, lax_xor_of, of_operands, lax_and, lax_xor, tagged}
+use Rattle.rewriting.specs.AtomIdentityRewrite.{is_constant_node, or_in_product, to_list, lax_and_of, lax_xor_of, of_operands, lax_and, lax_xor, tagged}
+use Rattle.expr.specs.Trees.{operands_of}
 use Rattle.rewriting.specs.CandidateClaims.{numbered}
 use Rattle.atom_identity_rewrite.specs.declared.Tag.{Tag}
 use Rattle.atom_identity_rewrite.specs.declared.candidate.Candidate.{Candidate}

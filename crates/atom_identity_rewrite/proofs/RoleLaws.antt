@@ -12,8 +12,8 @@ use Rattle.std.specs.Prelude as std
 use Rattle.std.specs.Prelude.{if◌then◌else◌}
 use Rattle.expr.specs.Expr.{Expr, binary}
 use Rattle.expr.specs.declared.kind.Binary.TheVariants.{And}
-use Rattle.rewriting.specs.Optional.{◌and_then◌, ◌or_else◌, only_if, map}
-use Rattle.rewriting.specs.OptionalLaws.{not_both, Every, every_at, every_or_else, every_map, every_map_on}
+use Rattle.expr.specs.Optional.{◌and_then◌, ◌or_else◌, only_if, map}
+use Rattle.expr.specs.OptionalLaws.{not_both, Every, every_at, every_or_else, every_map, every_map_on}
 use Rattle.rewriting.specs.AtomIdentityRewrite as def
 use Rattle.rewriting.specs.AtomIdentityRewrite.{beside_not_of, any_negated, extract, only, plus_and_minus, is_there, as_one, as_or, as_minus_two, as_minus_twice_or, match_and_via_not_or_plus_a_plus_one, match_xor_via_ornot_flat}
 use Rattle.atom_identity_rewrite.specs.declared.candidate.Candidate.{Candidate}

@@ -9,9 +9,10 @@ use Rattle.std.specs.Prelude.{if◌then◌else◌}
 use Rattle.std.specs.Option.{is_some}
 use Rattle.expr.specs.Expr.{Expr}
 use Rattle.expr.specs.declared.kind.Binary.TheVariants.{Or}
-use Rattle.rewriting.specs.Optional.{◌or_else◌, only_if, map}
+use Rattle.expr.specs.Optional.{◌or_else◌, only_if, map}
 use Rattle.rewriting.specs.AtomIdentityRewrite as def
-use Rattle.rewriting.specs.AtomIdentityRewrite.{any_negated, extract, is_there, is_masked, as_one, as_or, as_minus_two, as_minus_twice_or, operands_of, or_in_product}
+use Rattle.rewriting.specs.AtomIdentityRewrite.{any_negated, extract, is_there, is_masked, as_one, as_or, as_minus_two, as_minus_twice_or, or_in_product}
+use Rattle.expr.specs.Trees.{operands_of}
 use Rattle.atom_identity_rewrite.specs.declared.subtree.Subtree.{Subtree}
 use Rattle.atom_identity_rewrite.specs.declared.addends.SignedTree.{SignedTree}
 use Rattle.atom_identity_rewrite.specs.declared.reading.Roles.{Roles}

@@ -25,11 +25,12 @@ use Rattle.expr.specs.Parts.{tail, part}
 use Rattle.expr.specs.TailLaws.{length_tail}
 use Rattle.expr.specs.Front.{Exactly, Whole, tree_at, left_of, right_of}
 use Rattle.expr.specs.PartLaws.{parts, exact_length, one_child, two_children, child_tree, left_tree, right_tree}
-use Rattle.rewriting.specs.Optional.{only_if}
+use Rattle.expr.specs.Optional.{only_if}
 use Rattle.rewriting.specs.AtomSimplifier.{is_not_kind}
 use Rattle.rewriting.specs.TestLaws.{not_number}
 use Rattle.rewriting.specs.MatchLaws.{neg_number}
-use Rattle.rewriting.specs.AtomIdentityRewrite.{expr_eq, operands_of, operand_of_not, operand_of_neg, is_not_of, is_masked, is_constant_node}
+use Rattle.rewriting.specs.AtomIdentityRewrite.{expr_eq, operand_of_not, operand_of_neg, is_not_of, is_masked, is_constant_node}
+use Rattle.expr.specs.Trees.{operands_of}
 use Rattle.atom_identity_rewrite.specs.declared.kinds.Prefix.{Prefix}
 use Rattle.atom_identity_rewrite.specs.declared.kinds.Prefix.TheVariants as prefix
 use Rattle.atom_identity_rewrite.specs.declared.kinds.Factor.{Factor}

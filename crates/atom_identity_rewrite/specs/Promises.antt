@@ -11,7 +11,7 @@ use Rattle.expr.specs.Outcome.{accepted}
 use Rattle.expr.specs.Parts.{part}
 use Rattle.expr.specs.Lent.{lent_after}
 use Rattle.expr.specs.Front.{tree_at}
-use Rattle.rewriting.specs.Optional.{◌or_else◌, only_if}
+use Rattle.expr.specs.Optional.{◌or_else◌, only_if}
 use Rattle.rewriting.specs.AtomSimplifier as tree
 use Rattle.rewriting.specs.AtomIdentityRewrite as def
 use Rattle.rewriting.specs.AtomIdentityRewrite.{expr_eq, is_not_of, operand_of_not, operand_of_neg, flatten_addends, any_negated, extract, is_there, is_masked, is_constant_node, as_one, as_or, as_minus_two, as_minus_twice_or, tagged}

@@ -2,7 +2,7 @@
 ghost use Rattle.std.specs.Prelude.{◌≡◌};
 ghost use Rattle.expr.specs.Expr.{binary};
 ghost use Rattle.expr.specs.declared.kind.Binary.TheVariants.{And, Xor};
-ghost use Rattle.rewriting.specs.Optional.{map};
+ghost use Rattle.expr.specs.Optional.{map};
 ghost use Rattle.rewriting.specs.AtomIdentityRewrite.{operand_of_not, beside_not_of, xor_absorb_one, match_xor_and_absorb, same_unordered_pair, xor_of_or_and, match_xor_via_or_minus_and, and_of_or_not, match_and_via_not_or_minus_not, flatten_addends, match_and_via_not_or_plus_a_plus_one, match_xor_via_ornot_flat, match_binary_add_with_neg, lax_and_of, lax_xor_of, lax_and, lax_xor, each};
 ghost use Rattle.atom_identity_rewrite.specs.Promises.{tree_of, optional_tree, optional_trees, made, OffersAll, AndOfRoles, XorOfRoles, xor_of_or_not};
 

@@ -37,8 +37,9 @@ impl<'a> Subtree<'a> {
     ghost use Rattle.std.specs.Prelude.{◌&&◌, ◌||◌, if◌then◌else◌};
     ghost use Rattle.std.proofs.Math.Option.{none};
     ghost use Rattle.expr.specs.declared.kind.Binary.TheVariants.{Or};
-    ghost use Rattle.rewriting.specs.Optional.{◌or_else◌};
-    ghost use Rattle.rewriting.specs.AtomIdentityRewrite.{expr_eq, is_not_of, is_masked, is_constant_node, operands_of, beside_not_of, or_in_product};
+    ghost use Rattle.expr.specs.Optional.{◌or_else◌};
+    ghost use Rattle.rewriting.specs.AtomIdentityRewrite.{expr_eq, is_not_of, is_masked, is_constant_node, beside_not_of, or_in_product};
+    ghost use Rattle.expr.specs.Trees.{operands_of};
     ghost use Rattle.atom_identity_rewrite.specs.Promises.{tree_of, optional_tree, optional_trees, operand_of, factor_of};
 
     // The kind word.

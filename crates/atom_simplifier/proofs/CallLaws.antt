@@ -21,7 +21,7 @@ use Rattle.expr.specs.Front.{Starts, Whole, tree_at}
 use Rattle.expr.specs.PartLaws.{exact_front, exact_tree, exact_whole}
 use Rattle.width.specs.Checked.{checked}
 use Rattle.width.specs.CheckedLaws.{Tree, checked_tree, too_little, enough, Admitted, admitted_sound}
-use Rattle.rewriting.specs.Optional.{map}
+use Rattle.expr.specs.Optional.{map}
 use Rattle.rewriting.specs.AtomSimplifier as def
 use Rattle.rewriting.specs.AtomSimplifier.{local_rewrite, first_site}
 use Rattle.rewriting.specs.SiteLaws.{first_site_lem}

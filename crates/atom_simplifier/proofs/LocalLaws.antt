@@ -32,7 +32,7 @@ use Rattle.expr.specs.TailLaws.{length_tail}
 use Rattle.expr.specs.Front.{Starts, Exactly, tree_at, left_of, right_of}
 use Rattle.expr.specs.FrontLaws.{leaf_node, has_arity, known_arity}
 use Rattle.expr.specs.PartLaws.{exact_front, parts, OneChild, TwoChildren, exact_tree, one_child, two_children, left_tree, right_tree}
-use Rattle.rewriting.specs.Optional.{only_if, ◌equals_some◌}
+use Rattle.expr.specs.Optional.{only_if, ◌equals_some◌}
 use Rattle.rewriting.specs.AtomSimplifier as def
 use Rattle.rewriting.specs.AtomSimplifier.{constant, is_not_kind, is_not, constant_val, same_part, Bitwise, and, or, xor, kind_of, fold_rewrite, de_morgan, not_rewrite, unary_rewrite, binary_rewrite, local_rewrite}
 use Rattle.rewriting.specs.TestLaws.{not_number}

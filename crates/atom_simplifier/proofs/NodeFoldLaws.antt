@@ -12,7 +12,7 @@ use Rattle.expr.specs.Parts.{tail, part}
 use Rattle.expr.specs.TailLaws.{length_tail}
 use Rattle.expr.specs.Front.{Exactly, tree_at, left_of, right_of}
 use Rattle.expr.specs.PartLaws.{parts, left_exact, left_tree, right_tree, right_most}
-use Rattle.rewriting.specs.Optional.{◌and_then◌, ◌or_else◌, ◌otherwise◌}
+use Rattle.expr.specs.Optional.{◌and_then◌, ◌or_else◌, ◌otherwise◌, option_of}
 use Rattle.rewriting.specs.AtomSimplifier.{constant_val, unless_same, Bitwise, kind_of, arms, reassociate_constant, try_fold_binary, fold_rewrite}
 use Rattle.rewriting.specs.ShapeLaws.{Less, less_constant, less_left, less_right, reassociated_less, unless_less, unless_same_lem}
 use Rattle.std.specs.Prelude.{Some, None}
@@ -22,7 +22,6 @@ use Rattle.atom_simplifier.specs.declared.fold.Arm.{Arm}
 use Rattle.atom_simplifier.specs.declared.fold.Arm.TheVariants as arm
 use Rattle.atom_simplifier.specs.declared.local.Decision.{Decision}
 use Rattle.atom_simplifier.specs.declared.local.Decision.TheVariants.{Part, Constant}
-use Rattle.atom_simplifier.specs.Answers.{option_of}
 use Rattle.atom_simplifier.specs.Promises.{arm_tree, bitwise_of, number_of, arm_rewrite, Makes, Decides, DecidesAt}
 use Rattle.atom_simplifier.proofs.DecideLaws.{not_some, decides_none, decides_some, none_decided, some_decided, right_even, left_within, all_within, left_holds, right_behind, right_holds}
 use Rattle.atom_simplifier.proofs.OperandLaws.{bitwise_arity}

@@ -33,11 +33,10 @@ use Rattle.expr.specs.Parts.{tail, part}
 use Rattle.expr.specs.Front.{Exactly, tree_at, left_of, right_of}
 use Rattle.expr.specs.FrontLaws.{leaf_node}
 use Rattle.expr.specs.PartLaws.{exact_front, parts, TwoChildren, exact_length, one_child, two_children, child_tree, left_tree, right_tree}
-use Rattle.rewriting.specs.Optional.{◌equals_some◌}
+use Rattle.expr.specs.Optional.{◌equals_some◌, option_of}
 use Rattle.rewriting.specs.AtomSimplifier.{is_not_kind, constant_val, same_part, is_not_of, are_complements, contains_operand, kind_of}
 use Rattle.rewriting.specs.TestLaws.{not_number}
 use Rattle.atom_simplifier.specs.declared.fold.Bitwise.{Bitwise}
-use Rattle.atom_simplifier.specs.Answers.{option_of}
 use Rattle.atom_simplifier.specs.Promises.{is_constant, either_constant, bitwise_of, number_of}
 
 -- ---- kinds by their numbers

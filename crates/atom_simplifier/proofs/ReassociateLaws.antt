@@ -15,7 +15,7 @@ use Rattle.expr.specs.Parts.{tail, part}
 use Rattle.expr.specs.TailLaws.{length_tail}
 use Rattle.expr.specs.Front.{Exactly, Whole, tree_at, left_of, right_of}
 use Rattle.expr.specs.PartLaws.{parts, exact_tree, exact_whole, exact_node, two_children, left_exact, left_tree, right_tree, right_most}
-use Rattle.rewriting.specs.Optional.{map, ◌or_else◌, ◌otherwise◌}
+use Rattle.expr.specs.Optional.{map, ◌or_else◌, ◌otherwise◌, option_of}
 use Rattle.rewriting.specs.AtomSimplifier.{constant, constant_val, kind_of, arms, folded_word, reassociate_constant, try_fold_binary}
 use Rattle.rewriting.specs.FoldLaws.{fold_again, reassociate_is}
 use Rattle.std.specs.Prelude.{Some, None}
@@ -25,7 +25,6 @@ use Rattle.atom_simplifier.specs.declared.fold.Arm.{Arm}
 use Rattle.atom_simplifier.specs.declared.fold.Arm.TheVariants as arm
 use Rattle.atom_simplifier.specs.declared.local.Decision.{Decision}
 use Rattle.atom_simplifier.specs.declared.local.Decision.TheVariants.{Part, Constant, Join}
-use Rattle.atom_simplifier.specs.Answers.{option_of}
 use Rattle.atom_simplifier.specs.Promises.{arm_tree, bitwise_of, number_of, Within, Makes, Decides, DecidesAt}
 use Rattle.atom_simplifier.proofs.DecideLaws.{not_some, decides_none, decides_some, none_decided, some_decided, part_holds, right_even, left_within, right_within}
 use Rattle.atom_simplifier.proofs.OperandLaws.{bitwise_arity, number_found, found_arity, number_missed}

@@ -26,7 +26,7 @@ use Rattle.expr.specs.Front.{Front, Starts, Whole, tree_at, left_of}
 use Rattle.expr.specs.FrontLaws.{LeafNode, UnaryNode, BinaryNode, leaf_node, unary_node, binary_node, has_node, has_kind, child_starts, left_starts, has_arity, known_arity}
 use Rattle.expr.specs.PartLaws.{tail_short, part_short, front_tree, front_part, starts_front, exact_tree, exact_whole}
 use Rattle.expr.specs.LentLaws.{put_tail}
-use Rattle.rewriting.specs.Optional.{map, ◌or_else◌}
+use Rattle.expr.specs.Optional.{map, ◌or_else◌}
 use Rattle.rewriting.specs.AtomSimplifier as def
 use Rattle.rewriting.specs.AtomSimplifier.{local_rewrite, here, below, first_site}
 use Rattle.rewriting.specs.SiteLaws.{first_site_lem}

@@ -7,7 +7,7 @@ use Rattle.expr.specs.Expr.{Expr, nodes}
 use Rattle.expr.specs.Lent.{lent_after}
 use Rattle.width.specs.Checked.{checked, room_for}
 use Rattle.value.specs.Value.{one_width_of}
-use Rattle.rewriting.specs.Optional.{map, ◌otherwise◌}
+use Rattle.expr.specs.Optional.{map, ◌otherwise◌}
 use Rattle.rewriting.specs.Measures.{D}
 use Rattle.rewriting.specs.AtomSimplifier.{Site, local_rewrite, first_site}
 

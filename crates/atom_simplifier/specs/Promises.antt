@@ -9,7 +9,7 @@ use Rattle.expr.specs.Expr.{Expr, binary, binary_number, encode}
 use Rattle.expr.specs.Parse.{operands_ok}
 use Rattle.expr.specs.Parts.{tail, part, Laid}
 use Rattle.expr.specs.Front.{Front, Starts, Whole, tree_at}
-use Rattle.rewriting.specs.Optional.{◌equals_some◌}
+use Rattle.expr.specs.Optional.{◌equals_some◌}
 use Rattle.rewriting.specs.AtomSimplifier as def
 use Rattle.rewriting.specs.AtomSimplifier.{constant, not, is_not, constant_val, unless_same, Bitwise, and, or, xor, kind_of, arms, first_rewrite}
 use Rattle.rewriting.specs.Measures.{and_ors_of, D}

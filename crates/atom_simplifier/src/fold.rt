@@ -5,9 +5,8 @@ ghost use Rattle.expr.specs.Outcome.{accepted};
 ghost use Rattle.expr.specs.Expr.{encode};
 ghost use Rattle.expr.specs.Parse.{arity_of};
 ghost use Rattle.expr.specs.Front.{Whole, tree_at, left_of, right_of};
-ghost use Rattle.rewriting.specs.Optional.{◌and_then◌};
+ghost use Rattle.expr.specs.Optional.{◌and_then◌, option_of};
 ghost use Rattle.rewriting.specs.AtomSimplifier.{constant, constant_val, same_part, is_not_of, are_complements, contains_operand, and, or, xor, kind_of, constant_arms, arms, folded_word, reassociate_constant, try_fold_binary, fold_rewrite};
-ghost use Rattle.atom_simplifier.specs.Answers.{option_of};
 ghost use Rattle.atom_simplifier.specs.Promises.{is_constant, either_constant, arm_tree, bitwise_of, number_of, KindIs, arm_rewrite, Decides, DecidesAt};
 
 use crate::local::Decision;

@@ -7,10 +7,10 @@ ghost use Rattle.std.specs.Prelude.{◌≡◌, ◌≤◌, length};
 ghost use Rattle.expr.specs.Outcome.{mapped};
 ghost use Rattle.expr.specs.Expr.{encode, nodes};
 ghost use Rattle.expr.specs.Answers.{outcome};
-ghost use Rattle.rewriting.specs.Optional.{map};
+ghost use Rattle.expr.specs.Optional.{map, option_of};
 ghost use Rattle.atom_simplifier.specs.Calls.{admitted, local_rewrite_at, first_site_at, written};
 ghost use Rattle.atom_simplifier.specs.Promises.{site_words, Writes, HoldsSite};
-ghost use Rattle.atom_simplifier.specs.Answers.{option_of, site_numbers};
+ghost use Rattle.atom_simplifier.specs.Answers.{site_numbers};
 
 pub mod chain;
 mod fold;

@@ -6,7 +6,7 @@ ghost use Rattle.expr.specs.Expr.{encode, depth};
 ghost use Rattle.expr.specs.Parse.{arity_of};
 ghost use Rattle.expr.specs.Parts.{tail};
 ghost use Rattle.expr.specs.Front.{Starts, tree_at};
-ghost use Rattle.rewriting.specs.Optional.{map, ◌or_else◌};
+ghost use Rattle.expr.specs.Optional.{map, ◌or_else◌};
 ghost use Rattle.rewriting.specs.AtomSimplifier.{here, below, local_rewrite, first_site};
 ghost use Rattle.atom_simplifier.specs.Promises.{at_root, under_parent, Searched};
 

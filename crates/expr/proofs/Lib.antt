@@ -6,3 +6,4 @@ pub mod VariableLaws
 pub mod SameLaws
 pub mod VerdictLaws
 pub mod FoldLaws
+pub mod ChildLaws

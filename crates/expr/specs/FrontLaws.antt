@@ -1,5 +1,5 @@
 -- The node at the front of a tree's words, and the parts where its children begin. Assumes nothing.
-use Rattle.std.specs.Prelude.{◌≡◌, refl, Bool, true, false, ℕ, ◌+◌, ◌*◌, ◌/◌, ◌^◌, ◌≤◌, ◌<◌, T, drop, Result, Ok, Err}
+use Rattle.std.specs.Prelude.{◌≡◌, refl, ℕ, ◌+◌, ◌*◌, ◌^◌, ◌≤◌, ◌<◌, T, drop, Result, Ok, Err}
 use Rattle.std.specs.Result.{IsOk}
 use Rattle.std.proofs.Common.{sym, subst, ◌∙◌, Fits}
 use Rattle.std.proofs.Math.Path.{ap}
@@ -13,8 +13,8 @@ use Rattle.expr.specs.declared.refusal.Reason.{Reason}
 use Rattle.expr.specs.declared.refusal.Refusal.{Refusal}
 use Rattle.expr.specs.declared.Arity.{Arity}
 use Rattle.expr.specs.declared.Arity.TheVariants.{Zero, One, Two}
-use Rattle.expr.specs.Outcome.{Outcome, refused, accepted, mapped, ◌and_then◌}
-use Rattle.expr.specs.OutcomeLaws.{then_accepted, mapped_accepted, Made, mapped_made, refused_mapped}
+use Rattle.expr.specs.Outcome.{Outcome, refused, accepted, mapped}
+use Rattle.expr.specs.OutcomeLaws.{Made, mapped_made, refused_mapped}
 use Rattle.expr.specs.Expr.{Expr, leaf, unary, binary, leaf_number, leaf_operand, unary_number, unary_operand, binary_number, encode, nodes}
 use Rattle.expr.specs.declared.kind.Leaf.{Leaf}
 use Rattle.expr.specs.declared.kind.Unary.{Unary}
@@ -24,7 +24,6 @@ use Rattle.expr.specs.Parse.{Kind, none, one, two, arity, arity_of, operand_ok, 
 use Rattle.expr.specs.ParseLaws.{parse_sound}
 use Rattle.expr.specs.KindLaws.{number, number_arity}
 use Rattle.expr.specs.Answers.{children_of, arity_outcome}
-use Rattle.expr.specs.Trees.{is_accepted, Checked}
 use Rattle.expr.specs.Front.{Front, Starts, Spans, Read}
 use Rattle.expr.specs.Parts.{tail}
 use Rattle.expr.specs.TailLaws.{tail_drop, length_tail}
@@ -303,46 +302,6 @@ pub record IsTree (ws : List ℕ) : Type 0 where
 pub is_tree : (ws : List ℕ) (n : ℕ) → accepted n ≡ mapped nodes (parse ws) → IsTree ws
 is_tree ws n e = let m : Made nodes (parse ws) n = mapped_made nodes (parse ws) e in record { tree = m.answer; is = m.was }
 
-pub checked_is_tree : (ws : List ℕ) → Checked ws → IsTree ws
-checked_is_tree ws e = go (parse ws) refl e
-  where
-    go : (o : Outcome Expr) → parse ws ≡ o → is_accepted o ≡ true → IsTree ws
-    go (refused r) f g = absurd (let z : ◌≡◌ {A = Bool} false true = g in cc)
-    go (accepted t) f g = record { tree = t; is = f }
-
-module _ (ws : List ℕ) (t : IsTree ws) where
-  pub tree_starts : Starts ws
-  tree_starts = record { tree = t.tree; front = parse_front ws t.tree t.is }
-
-  pub tree_short : length ws ≤ 1024
-  tree_short = let a = parse_sound ws t.tree t.is in omega (arith, ap length a.words, length_encode t.tree, a.valid.count)
-
-  pub tree_words : accepted ws ≡ mapped encode (parse ws)
-  tree_words = ap accepted (parse_sound ws t.tree t.is).words ∙ sym (mapped_accepted t.is encode)
-
-  pub tree_nodes : accepted (length ws / 2) ≡ mapped nodes (parse ws)
-  tree_nodes =
-      let a = parse_sound ws t.tree t.is in
-      ap accepted (let e : length ws / 2 ≡ nodes t.tree = omega (arith, ap length a.words, length_encode t.tree) in e) ∙ sym (mapped_accepted t.is nodes)
-
 -- a refusal is handed on
 pub turned_down : {A : Type 0} (o : Outcome Expr) (r : Reason) → refused r ≡ mapped nodes o → (f : Expr → A) → refused r ≡ mapped f o
 turned_down o r e f = refused_mapped nodes f o e
-
--- ---- what was found of a tree that was read is the answer for the words
-
-module _ (ws vs : List ℕ) (e : accepted vs ≡ mapped encode (parse ws)) where
-  pub read_made : Made encode (parse ws) vs
-  read_made = mapped_made encode (parse ws) e
-
-  pub same_tree : parse vs ≡ accepted read_made.answer
-  same_tree =
-      let m = read_made in
-      let s : vs ≡ ws = sym m.made ∙ sym (parse_sound ws m.answer m.was).words in
-      ap parse s ∙ m.was
-
-  pub folded : {A : Type 0} (f : Expr → A) (y : A) → ((t : Expr) → parse vs ≡ accepted t → y ≡ f t) → accepted y ≡ mapped f (parse ws)
-  folded f y h = ap accepted (h read_made.answer same_tree) ∙ sym (mapped_accepted read_made.was f)
-
-  pub then_folded : {A : Type 0} (f : Expr → Outcome A) (o : Outcome A) → ((t : Expr) → parse vs ≡ accepted t → o ≡ f t) → o ≡ (parse ws and_then f)
-  then_folded f o h = h read_made.answer same_tree ∙ sym (then_accepted read_made.was f)

@@ -5,8 +5,9 @@ pub mod ExprUtils
 pub mod Parse
 pub mod Span
 pub mod Parts
-pub mod Trees
+pub mod Optional
 pub mod Front
+pub mod Trees
 pub mod Lent
 pub mod SameWords
 pub mod Answers

@@ -3,7 +3,7 @@
 #![tactic(auto)]
 
 ghost use Rattle.std.specs.Prelude.{◌≡◌, min, length, take};
-ghost use Rattle.expr.specs.Expr.{Expr, encode, nodes};
+ghost use Rattle.expr.specs.Expr.{nodes};
 ghost use Rattle.expr.specs.ExprUtils.{has_var_dep_of, is_constant_subtree};
 ghost use Rattle.expr.specs.Outcome.{mapped};
 ghost use Rattle.expr.specs.Parse.{arity, arity_of, operand_ok, node_kind, subtree, word_count_ok, parse};
@@ -17,7 +17,10 @@ pub mod kind;
 pub mod refusal;
 pub mod tree;
 
+use fold::Fold;
+use kind::{Binary, Leaf, Unary};
 use refusal::Refusal;
+use tree::Tree;
 
 // How many children a node has.
 #[derive(Clone, Copy, PartialEq, Eq)]
@@ -164,30 +167,47 @@ pub fn copy_words(words: &[u64], out: &mut [u64])
     out[..n].copy_from_slice(&words[..n]);
 }
 
-// Whether one of a tree's nodes is a Variable: its kind words stand at the even places.
-fn has_variable(words: &[u64]) -> bool
-    ensures { (t : Expr) → words.now ≡ encode t → result ≡ has_var_dep_of t }
-{
-    for at in (0..words.len()).step_by(2) {
-        if words[at] == kind::VARIABLE {
-            return true;
+// The walk that finds whether a tree has a Variable.
+struct Variables;
+
+impl Fold for Variables {
+    type Found = bool;
+
+    ghost gives = { λ _ found t. found ≡ has_var_dep_of t };
+
+    ghost fits = { λ _ _. Unit };
+
+    ghost within = { λ _ _ _ _ _. tt };
+
+    #[tactic(auto, unfolding(crate::specs::ExprUtils::has_var_dep_of))]
+    fn leaf(&self, kind: Leaf) -> bool {
+        match kind {
+            Leaf::Constant(_) => false,
+            Leaf::Variable(_) => true,
         }
     }
-    false
+
+    #[tactic(auto, unfolding(crate::specs::ExprUtils::has_var_dep_of))]
+    fn unary(&self, _kind: Unary, child: bool) -> bool {
+        child
+    }
+
+    #[tactic(auto, unfolding(crate::specs::ExprUtils::has_var_dep_of))]
+    fn binary(&self, _kind: Binary, left: bool, right: bool) -> bool {
+        left || right
+    }
 }
 
 // Whether the tree has a Variable.
 pub fn has_var_dep(words: &[u64]) -> Result<bool, Refusal>
     ensures { outcome result ≡ mapped has_var_dep_of (parse words.now) }
 {
-    check_tree(words)?;
-    Ok(has_variable(words))
+    Ok(Tree::read(words)?.fold(&Variables))
 }
 
 // Whether the tree has no Variable.
 pub fn is_constant_subtree(words: &[u64]) -> Result<bool, Refusal>
     ensures { outcome result ≡ mapped is_constant_subtree (parse words.now) }
 {
-    let dep = has_var_dep(words)?;
-    Ok(!dep)
+    Ok(!has_var_dep(words)?)
 }

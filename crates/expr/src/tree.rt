@@ -1,9 +1,140 @@
 // A tree, by its words.
-ghost use Rattle.expr.specs.Trees.{Checked};
+ghost use Rattle.std.specs.Prelude.{◌≡◌, ◌≤◌, length};
+ghost use Rattle.expr.specs.Front.{Whole};
 
-// The words of a tree; no other words make one.
+use crate::kind::{Binary, Leaf, Unary};
+use crate::refusal::Refusal;
+use crate::{Arity, arity_of, check_tree, kind, same_words, span};
+
+// The words of a tree, exactly; no other words make one. They may have more levels than those of a tree that is read.
 #[derive(Clone, Copy)]
 pub struct Tree<'a> {
-    pub(crate) words: &'a [u64],
-    pub ghost checked: { Checked words.now },
+    pub words: &'a [u64],
+    pub ghost whole: { Whole words.now },
+    pub ghost short: { length words.now ≤ 1024 },
+}
+
+// A node over the trees below it.
+#[derive(Clone, Copy)]
+pub enum Node<'a> {
+    Leaf(Leaf),
+    Unary(Unary, Tree<'a>),
+    Binary(Binary, Tree<'a>, Tree<'a>),
+}
+
+impl<'a> Tree<'a> {
+    ghost use Rattle.expr.specs.Expr.{encode, nodes};
+    ghost use Rattle.expr.specs.Front.{left_of, right_of};
+    ghost use Rattle.expr.specs.Outcome.{accepted, mapped};
+    ghost use Rattle.expr.specs.Optional.{option_of};
+    ghost use Rattle.expr.specs.Parse.{parse, arity_of};
+    ghost use Rattle.expr.specs.SameWords.{same_words};
+    ghost use Rattle.expr.specs.Answers.{outcome};
+    ghost use Rattle.expr.specs.Trees.{tree_of, node_of, constant_of, operand_of, operands_of, optional_tree, optional_trees};
+    ghost use Rattle.std.specs.Prelude.{get_or, ◌+◌};
+
+    // The tree that the words are, or the refusal.
+    #[tactic(auto, using(crate::proofs::ChildLaws::reading))]
+    pub fn read(words: &'a [u64]) -> Result<Tree<'a>, Refusal>
+        ensures { mapped tree_of (outcome result) ≡ parse words.now }
+    {
+        check_tree(words)?;
+        Ok(Tree { words })
+    }
+
+    // The number of nodes.
+    #[tactic(auto, using(crate::proofs::ChildLaws::half))]
+    pub fn nodes(self) -> usize
+        ensures { result ≡ nodes (tree_of self.entry) }
+    {
+        self.words.len() / 2
+    }
+
+    // The word of a Constant.
+    #[tactic(auto, using(crate::specs::PartLaws::parts, crate::proofs::ChildLaws::no_constant, crate::proofs::ChildLaws::constant_word))]
+    pub fn constant(self) -> Option<u64>
+        ensures { option_of result ≡ constant_of (tree_of self.entry) }
+    {
+        let words = self.words;
+        if words[0] != kind::CONSTANT {
+            return None;
+        }
+        Some(words[1])
+    }
+
+    // The operand, where it is a node of that kind.
+    pub fn operand(self, kind: Unary) -> Option<Tree<'a>>
+        ensures { optional_tree result ≡ operand_of kind (tree_of self.entry) }
+    {
+        let words = self.words;
+        if words[0] != kind.number() {
+            return None;
+        }
+        if words[1] != kind.operand() {
+            return None;
+        }
+        Some(Tree { words: &words[2..] })
+    }
+
+    // Where the right operand's words begin.
+    fn right_at(self) -> usize
+        requires { arity_of (get_or self.words.now 0 0) ≡ accepted 2 }
+        ensures { result ≡ 2 + length (encode (left_of (tree_of self.entry))) }
+    {
+        let words = self.words;
+        // a tree's words are not refused
+        2 + span(&words[2..]).unwrap()
+    }
+
+    // The operands of a node with two.
+    fn both(self) -> (Tree<'a>, Tree<'a>)
+        requires { arity_of (get_or self.words.now 0 0) ≡ accepted 2 }
+        ensures { (tree_of result.0 ≡ left_of (tree_of self.entry)) × (tree_of result.1 ≡ right_of (tree_of self.entry)) }
+    {
+        let words = self.words;
+        let right = self.right_at();
+        let l = Tree {
+            words: &words[2..right],
+        };
+        let r = Tree {
+            words: &words[right..],
+        };
+        (l, r)
+    }
+
+    // The operands, where it is a node of that kind.
+    pub fn operands(self, kind: Binary) -> Option<(Tree<'a>, Tree<'a>)>
+        ensures { optional_trees result ≡ operands_of kind (tree_of self.entry) }
+    {
+        let words = self.words;
+        if words[0] != kind.number() {
+            return None;
+        }
+        Some(self.both())
+    }
+
+    // The root, with what is below it.
+    pub fn node(self) -> Node<'a>
+        ensures { node_of result ≡ tree_of self.entry }
+    {
+        let words = self.words;
+        match arity_of(words[0]).unwrap() {
+            Arity::Zero => Node::Leaf(Leaf::of(words[0], words[1])),
+            Arity::One => {
+                let child = Tree { words: &words[2..] };
+                Node::Unary(Unary::of(words[0], words[1]), child)
+            }
+            Arity::Two => {
+                let (l, r) = self.both();
+                Node::Binary(Binary::of(words[0]), l, r)
+            }
+        }
+    }
+
+    // Whether the trees are equal: their words are the same.
+    pub fn expr_eq(self, other: Tree<'_>) -> bool
+        ensures { result ≡ same_words (encode (tree_of self.entry)) (encode (tree_of other.entry)) }
+    {
+        same_words(self.words, other.words)
+    }
 }

@@ -19,7 +19,8 @@ use Rattle.rewriting.specs.Chain.{trees_from, trees_of}
 use Rattle.rewriting.specs.ChainLaws.{◌IsAmong◌, first, later}
 use Rattle.rewriting.specs.AtomSimplifier.{same_part, are_complements, contains_operand, constant_arms, arms, reassociate_constant, try_fold_binary, not_rewrite, unary_rewrite, unless_same, fold_rewrite, binary_rewrite, local_rewrite, first_rewrite}
 use Rattle.rewriting.specs.AtomSimplifier.{is_not_of as is_not_of_part}
-use Rattle.rewriting.specs.AtomIdentityRewrite.{expr_eq, operands_of, operand_of_not, operand_of_neg, is_not_of, beside_not_of, match_binary_add_with_neg, xor_absorb_one, match_xor_and_absorb, same_unordered_pair, xor_of_or_and, match_xor_via_or_minus_and, and_of_or_not, match_and_via_not_or_minus_not, push_addend, any_negated, extract, only, plus_and_minus, is_constant_node, or_in_product, is_masked, match_and_via_not_or_plus_a_plus_one, match_xor_via_ornot_flat, lax_and, lax_xor, each, is_add, tagged, lax_candidates, candidates}
+use Rattle.rewriting.specs.AtomIdentityRewrite.{expr_eq, operand_of_not, operand_of_neg, is_not_of, beside_not_of, match_binary_add_with_neg, xor_absorb_one, match_xor_and_absorb, same_unordered_pair, xor_of_or_and, match_xor_via_or_minus_and, and_of_or_not, match_and_via_not_or_minus_not, push_addend, any_negated, extract, only, plus_and_minus, is_constant_node, or_in_product, is_masked, match_and_via_not_or_plus_a_plus_one, match_xor_via_ornot_flat, lax_and, lax_xor, each, is_add, tagged, lax_candidates, candidates}
+use Rattle.expr.specs.Trees.{operands_of}
 use Rattle.marked.specs.Marked.{Row, words, offered, answer, down_from, table}
 
 -- ---- the test

@@ -18,11 +18,12 @@ use Rattle.expr.specs.ParseLaws.{parse_sound, parse_encode}
 use Rattle.value.specs.Value.{value, is_lent, one_width_of}
 use Rattle.value.specs.ValueLaws.{one_width_sound, one_width_complete}
 use Rattle.width.specs.Width.{binary_keeps, is_uniform_width}
-use Rattle.rewriting.specs.Optional.{map, ◌or_else◌}
-use Rattle.rewriting.specs.OptionalLaws.{Every, if_case, every_or_else, every_at, every_on, every_map_on}
-use Rattle.rewriting.specs.AtomSimplifier.{not, same_kind}
+use Rattle.expr.specs.Optional.{map, ◌or_else◌}
+use Rattle.expr.specs.OptionalLaws.{Every, if_case, every_or_else, every_at, every_on, every_map_on}
+use Rattle.rewriting.specs.AtomSimplifier.{not}
+use Rattle.expr.specs.Trees.{same_kind, operands_of}
 use Rattle.rewriting.specs.Measures.{occurrences}
-use Rattle.rewriting.specs.AtomIdentityRewrite.{operands_of, operand_of_not, is_neg_kind, match_xor_and_absorb, match_xor_via_or_minus_and, match_and_via_not_or_minus_not, Addend, push_addend, flatten_addends, is_constant_node, or_in_product, match_and_via_not_or_plus_a_plus_one, match_xor_via_ornot_flat, to_list, lax_and_of, lax_xor_of, of_operands, lax_and, lax_xor, each, is_add, Candidate, tagged, lax_candidates, candidates}
+use Rattle.rewriting.specs.AtomIdentityRewrite.{operand_of_not, is_neg_kind, match_xor_and_absorb, match_xor_via_or_minus_and, match_and_via_not_or_minus_not, Addend, push_addend, flatten_addends, is_constant_node, or_in_product, match_and_via_not_or_plus_a_plus_one, match_xor_via_ornot_flat, to_list, lax_and_of, lax_xor_of, of_operands, lax_and, lax_xor, each, is_add, Candidate, tagged, lax_candidates, candidates}
 use Rattle.rewriting.specs.CandidateClaims.{numbered, keeps_value, is_signed, Claim}
 use Rattle.rewriting.specs.ShapeLaws.{◌⊑◌, as_it_is, child, left, right, both, swapped, in_turn, Less, less_left}
 use Rattle.rewriting.specs.MeasureLaws.{cut_nodes, cut_depth}

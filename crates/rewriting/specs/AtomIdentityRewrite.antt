@@ -10,20 +10,16 @@ use Rattle.expr.specs.declared.kind.Unary.TheVariants.{Not, Neg, Shr, ZExt, SExt
 use Rattle.expr.specs.declared.kind.Binary.{Binary}
 use Rattle.expr.specs.declared.kind.Binary.TheVariants.{Add, Mul, And, Or, Xor}
 use Rattle.expr.specs.SameWords.{same_words}
-use Rattle.rewriting.specs.Optional.{only_if, map, ◌and_then◌, ◌or_else◌}
-use Rattle.rewriting.specs.AtomSimplifier.{not, is_not_kind, same_kind}
+use Rattle.expr.specs.Trees.{operands_of}
+use Rattle.expr.specs.Optional.{only_if, map, ◌and_then◌, ◌or_else◌}
+use Rattle.rewriting.specs.AtomSimplifier.{not, is_not_kind}
+use Rattle.expr.specs.Trees.{same_kind}
 
 -- ---- looking at a node
 
 -- `expr_eq`: the Rust's `==` of two trees
 unfoldable pub expr_eq : Expr → Expr → Bool
 expr_eq t u = same_words (encode t) (encode u)
-
--- the operands of a node of kind k
-unfoldable pub operands_of : Binary → Expr → Option (Expr × Expr)
-operands_of k (leaf j) = none
-operands_of k (unary j t) = none
-operands_of k (binary j l r) = only_if (same_kind j k) (l, r)
 
 -- the operand of a Not
 unfoldable pub operand_of_not : Expr → Option Expr

@@ -9,7 +9,8 @@ use Rattle.expr.specs.declared.kind.Unary.TheVariants.{Not, Neg, Shr, ZExt, SExt
 use Rattle.expr.specs.declared.kind.Binary.{Binary}
 use Rattle.expr.specs.declared.kind.Binary.TheVariants.{Add, Mul, And, Or, Xor, Concat}
 use Rattle.expr.specs.SameWords.{same_words}
-use Rattle.rewriting.specs.Optional.{only_if, map, ◌and_then◌, ◌or_else◌, ◌otherwise◌, ◌equals_some◌}
+use Rattle.expr.specs.Trees.{same_kind}
+use Rattle.expr.specs.Optional.{only_if, map, ◌and_then◌, ◌or_else◌, ◌otherwise◌, ◌equals_some◌}
 
 -- the tree of one constant
 abbrev pub constant : ℕ → Expr
@@ -35,10 +36,6 @@ abbrev pub is_not : Expr → Bool
 is_not (leaf k) = false
 is_not (unary k t) = is_not_kind k
 is_not (binary k l r) = false
-
--- the two kinds are the same
-abbrev pub same_kind : Binary → Binary → Bool
-same_kind k j = eqb (binary_number k) (binary_number j)
 
 -- all at the width w of the call. `constant_val` and `same_part` do not depend on it, since the fold compares whole words: they are the two places
 -- that say so

@@ -2,7 +2,7 @@
 use Rattle.std.specs.Prelude.{◌≡◌, List, [], ◌∷◌, ℕ, zero, suc, ◌+◌, ◌*◌}
 use Rattle.std.proofs.Math.Option.{none, some}
 use Rattle.expr.specs.Expr.{Expr, nodes}
-use Rattle.rewriting.specs.Optional.{map, ◌otherwise◌}
+use Rattle.expr.specs.Optional.{map, ◌otherwise◌}
 use Rattle.rewriting.specs.AtomSimplifier.{first_rewrite}
 use Rattle.rewriting.specs.Measures.{D}
 

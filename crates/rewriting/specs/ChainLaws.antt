@@ -11,8 +11,8 @@ use Rattle.expr.specs.ExprLaws.{nodes_pos}
 use Rattle.expr.specs.Parse.{operands_ok, Valid}
 use Rattle.value.specs.Value.{value, is_lent}
 use Rattle.width.specs.Width.{is_uniform_width}
-use Rattle.rewriting.specs.Optional.{map, ◌otherwise◌, ◌and_then◌}
-use Rattle.rewriting.specs.OptionalLaws.{not_both, only_one}
+use Rattle.expr.specs.Optional.{map, ◌otherwise◌, ◌and_then◌}
+use Rattle.expr.specs.OptionalLaws.{not_both, only_one}
 use Rattle.rewriting.specs.AtomSimplifier.{Site, first_site, first_rewrite}
 use Rattle.rewriting.specs.Measures.{D, occurrences}
 use Rattle.rewriting.specs.Chain.{Listed, last_of, trees_from, trees_of}

@@ -11,8 +11,8 @@ use Rattle.expr.specs.declared.kind.Unary.{Unary}
 use Rattle.expr.specs.declared.kind.Unary.TheVariants.{Not}
 use Rattle.expr.specs.declared.kind.Binary.{Binary}
 use Rattle.expr.specs.SubtreeLaws.{◌IsIn◌, itself, in_child_lem, in_left, in_right}
-use Rattle.rewriting.specs.Optional.{map, ◌or_else◌}
-use Rattle.rewriting.specs.OptionalLaws.{neither, not_both, only_one}
+use Rattle.expr.specs.Optional.{map, ◌or_else◌}
+use Rattle.expr.specs.OptionalLaws.{neither, not_both, only_one}
 use Rattle.rewriting.specs.AtomSimplifier.{not, is_not, de_morgan, not_rewrite, unary_rewrite, local_rewrite, first_rewrite}
 use Rattle.rewriting.specs.Measures.{D}
 use Rattle.rewriting.specs.ShapeLaws.{Dual, and_or_lem, or_and}

@@ -5,9 +5,10 @@ use Rattle.std.proofs.Common.{ap₂, subst}
 use Rattle.std.proofs.Math.Option.{Option, none, some}
 use Rattle.expr.specs.Expr.{Expr, leaf, unary, binary}
 use Rattle.expr.specs.declared.kind.Binary.{Binary}
-use Rattle.rewriting.specs.Optional.{map, ◌and_then◌, ◌or_else◌, ◌otherwise◌}
-use Rattle.rewriting.specs.OptionalLaws.{Every, if_case, otherwise_case, every_on, every_or_else, every_map, every_and_then}
-use Rattle.rewriting.specs.AtomSimplifier.{constant, same_kind, constant_val, Bitwise, kind_of, arms, folded_word, reassociate_constant, try_fold_binary}
+use Rattle.expr.specs.Optional.{map, ◌and_then◌, ◌or_else◌, ◌otherwise◌}
+use Rattle.expr.specs.OptionalLaws.{Every, if_case, otherwise_case, every_on, every_or_else, every_map, every_and_then}
+use Rattle.rewriting.specs.AtomSimplifier.{constant, constant_val, Bitwise, kind_of, arms, folded_word, reassociate_constant, try_fold_binary}
+use Rattle.expr.specs.Trees.{same_kind}
 use Rattle.rewriting.specs.TestLaws.{same_kind→eq, constant_val→eq}
 
 -- the node that is folded

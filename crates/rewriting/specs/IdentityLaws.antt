@@ -22,8 +22,8 @@ use Rattle.expr.specs.declared.kind.Binary.{Binary}
 use Rattle.expr.specs.declared.kind.Binary.TheVariants.{Add}
 use Rattle.value.specs.Value.{unary_value, binary_value, value}
 use Rattle.value.specs.ValueLaws.{value_lt}
-use Rattle.rewriting.specs.OptionalLaws.{Every, if_case, every_at, every_on}
-use Rattle.rewriting.specs.AtomSimplifier.{same_kind}
+use Rattle.expr.specs.OptionalLaws.{Every, if_case, every_at, every_on}
+use Rattle.expr.specs.Trees.{same_kind}
 use Rattle.rewriting.specs.AtomIdentityRewrite.{is_neg_kind, match_xor_and_absorb, match_xor_via_or_minus_and, match_and_via_not_or_minus_not, Addend, push_addend, flatten_addends, any_negated, plus_and_minus, is_masked, match_and_via_not_or_plus_a_plus_one, match_xor_via_ornot_flat, or_not_under_neg}
 use Rattle.rewriting.specs.TestLaws.{same_kind→eq}
 use Rattle.rewriting.specs.MatchLaws.{neg_kind→eq, Absorbs, absorbs, found_1, Minus, or_and, or_not, Differs, or_first, or_second, found_2, found_3, Insert, here, there, product, PlusOne, plus_one, found_4, OrNotFlat, or_not_flat, found_5}

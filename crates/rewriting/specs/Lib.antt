@@ -1,4 +1,3 @@
-pub mod Optional
 pub mod AtomSimplifier
 pub mod Measures
 pub mod AtomIdentityRewrite

@@ -16,10 +16,11 @@ use Rattle.expr.specs.declared.kind.Binary.{Binary}
 use Rattle.expr.specs.declared.kind.Binary.TheVariants.{Add, Mul, And, Or, Xor, Concat}
 use Rattle.expr.specs.SameWordsLaws.{same→tree}
 use Rattle.value.specs.Value.{binary_value, value}
-use Rattle.rewriting.specs.Optional.{only_if, map, ◌and_then◌, ◌or_else◌}
-use Rattle.rewriting.specs.OptionalLaws.{then_none, Every, if_case, every_only_if, every_unless, every_or_else, every_at, every_on, every_and_then, every_map_on, every_and_then_on}
-use Rattle.rewriting.specs.AtomSimplifier.{not, is_not_kind, same_kind}
-use Rattle.rewriting.specs.AtomIdentityRewrite.{expr_eq, operands_of, operand_of_not, is_neg_kind, operand_of_neg, is_not_of, beside_not_of, match_binary_add_with_neg, xor_absorb_one, match_xor_and_absorb, same_unordered_pair, xor_of_or_and, match_xor_via_or_minus_and, and_of_or_not, match_and_via_not_or_minus_not, Addend, any_negated, extract, only, plus_and_minus, as_or, or_in_product, is_masked, as_one, match_and_via_not_or_plus_a_plus_one, as_minus_two, as_minus_twice_or, match_xor_via_ornot_flat, is_there, or_not_under_neg}
+use Rattle.expr.specs.Optional.{only_if, map, ◌and_then◌, ◌or_else◌}
+use Rattle.expr.specs.OptionalLaws.{then_none, Every, if_case, every_only_if, every_unless, every_or_else, every_at, every_on, every_and_then, every_map_on, every_and_then_on}
+use Rattle.rewriting.specs.AtomSimplifier.{not, is_not_kind}
+use Rattle.expr.specs.Trees.{same_kind, operands_of}
+use Rattle.rewriting.specs.AtomIdentityRewrite.{expr_eq, operand_of_not, is_neg_kind, operand_of_neg, is_not_of, beside_not_of, match_binary_add_with_neg, xor_absorb_one, match_xor_and_absorb, same_unordered_pair, xor_of_or_and, match_xor_via_or_minus_and, and_of_or_not, match_and_via_not_or_minus_not, Addend, any_negated, extract, only, plus_and_minus, as_or, or_in_product, is_masked, as_one, match_and_via_not_or_plus_a_plus_one, as_minus_two, as_minus_twice_or, match_xor_via_ornot_flat, is_there, or_not_under_neg}
 use Rattle.rewriting.specs.TestLaws.{not_kind→eq, same_kind→eq}
 use Rattle.rewriting.specs.ShapeLaws.{◌⊑◌, as_it_is, both, swapped, in_turn}
 

@@ -2,7 +2,7 @@
 use Rattle.std.specs.Prelude.{◌≡◌, refl, Bool, true, false, not, T, if◌then◌else◌}
 use Rattle.std.proofs.Common.{sym, ap, subst, ◌∙◌}
 use Rattle.std.proofs.Math.Option.{Option, none, some}
-use Rattle.rewriting.specs.Optional.{only_if, map, ◌and_then◌, ◌or_else◌, ◌otherwise◌}
+use Rattle.expr.specs.Optional.{only_if, map, ◌and_then◌, ◌or_else◌, ◌otherwise◌}
 
 -- P of what is there, if anything is
 abbrev pub Every : {A : Type 0} → (A → Type 0) → Option A → Type 0

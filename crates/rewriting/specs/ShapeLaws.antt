@@ -14,8 +14,8 @@ use Rattle.expr.specs.declared.kind.Unary.TheVariants.{Not, Neg, Shr, ZExt, SExt
 use Rattle.expr.specs.declared.kind.Binary.{Binary}
 use Rattle.expr.specs.declared.kind.Binary.TheVariants.{Add, Mul, And, Or, Xor, Concat}
 use Rattle.expr.specs.ExprLaws.{nodes_pos}
-use Rattle.rewriting.specs.Optional.{◌and_then◌, ◌or_else◌, ◌equals_some◌}
-use Rattle.rewriting.specs.OptionalLaws.{Every, if_case, every_only_if, every_at}
+use Rattle.expr.specs.Optional.{◌and_then◌, ◌or_else◌, ◌equals_some◌}
+use Rattle.expr.specs.OptionalLaws.{Every, if_case, every_only_if, every_at}
 use Rattle.rewriting.specs.AtomSimplifier.{constant, not, is_not_kind, is_not, constant_val, same_part, are_complements, contains_operand, Bitwise, and, or, xor, constant_arms, arms, reassociate_constant, try_fold_binary, de_morgan, not_rewrite, unary_rewrite, unless_same, fold_rewrite, binary_rewrite, local_rewrite}
 use Rattle.rewriting.specs.TestLaws.{same_part→eq, eq→same_part}
 use Rattle.rewriting.specs.FoldLaws.{node, Folding, at_reassociation, at_fold}

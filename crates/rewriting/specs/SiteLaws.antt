@@ -10,8 +10,8 @@ use Rattle.expr.specs.Expr.{Expr, leaf, unary, binary, unary_number, unary_opera
 use Rattle.expr.specs.declared.kind.Unary.{Unary}
 use Rattle.expr.specs.declared.kind.Binary.{Binary}
 use Rattle.expr.specs.ExprLaws.{depth_pos}
-use Rattle.rewriting.specs.Optional.{map, ◌and_then◌}
-use Rattle.rewriting.specs.OptionalLaws.{Every, every_at, neither, map_none, Both, both_or_else, both_on, both_and_then, both_first, both_second}
+use Rattle.expr.specs.Optional.{map, ◌and_then◌}
+use Rattle.expr.specs.OptionalLaws.{Every, every_at, neither, map_none, Both, both_or_else, both_on, both_and_then, both_first, both_second}
 use Rattle.rewriting.specs.AtomSimplifier.{local_rewrite, Site, here, below, first_site, first_rewrite, subtree_at, replace_at}
 use Rattle.rewriting.specs.ShapeLaws.{local_nodes}
 

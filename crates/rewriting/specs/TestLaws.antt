@@ -12,8 +12,9 @@ use Rattle.expr.specs.declared.kind.Unary.TheVariants.{Not, Neg, Shr, ZExt, SExt
 use Rattle.expr.specs.declared.kind.Binary.{Binary}
 use Rattle.expr.specs.KindLaws.{same_binary}
 use Rattle.expr.specs.SameWordsLaws.{same→tree, tree→same}
-use Rattle.rewriting.specs.Optional.{◌equals_some◌}
-use Rattle.rewriting.specs.AtomSimplifier.{constant, not, is_not_kind, same_kind, constant_val, same_part, is_not_of}
+use Rattle.expr.specs.Optional.{◌equals_some◌}
+use Rattle.rewriting.specs.AtomSimplifier.{constant, not, is_not_kind, constant_val, same_part, is_not_of}
+use Rattle.expr.specs.Trees.{same_kind}
 
 pub not_kind→eq : (k : Unary) → T (is_not_kind k) → k ≡ Not
 not_kind→eq Not h = refl

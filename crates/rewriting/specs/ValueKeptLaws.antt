@@ -18,9 +18,10 @@ use Rattle.expr.specs.declared.kind.Binary.{Binary}
 use Rattle.expr.specs.declared.kind.Binary.TheVariants.{Add, Mul, And, Or, Xor, Concat}
 use Rattle.value.specs.Value.{unary_value, binary_value, value}
 use Rattle.value.specs.ValueLaws.{value_lt}
-use Rattle.rewriting.specs.Optional.{◌equals_some◌}
-use Rattle.rewriting.specs.OptionalLaws.{Every, if_case, every_only_if, every_at}
-use Rattle.rewriting.specs.AtomSimplifier.{constant, is_not_kind, is_not, same_kind, constant_val, same_part, is_not_of, are_complements, contains_operand, Bitwise, and, or, xor, kind_of, constant_arms, arms, folded_word, try_fold_binary, de_morgan, not_rewrite, unary_rewrite, unless_same, fold_rewrite, binary_rewrite, local_rewrite}
+use Rattle.expr.specs.Optional.{◌equals_some◌}
+use Rattle.expr.specs.OptionalLaws.{Every, if_case, every_only_if, every_at}
+use Rattle.rewriting.specs.AtomSimplifier.{constant, is_not_kind, is_not, constant_val, same_part, is_not_of, are_complements, contains_operand, Bitwise, and, or, xor, kind_of, constant_arms, arms, folded_word, try_fold_binary, de_morgan, not_rewrite, unary_rewrite, unless_same, fold_rewrite, binary_rewrite, local_rewrite}
+use Rattle.expr.specs.Trees.{same_kind}
 use Rattle.rewriting.specs.TestLaws.{not_kind→eq, same_kind→eq, same_part→eq, not_of→eq, is_some→eq}
 use Rattle.rewriting.specs.FoldLaws.{node, Folding, at_fold}
 

@@ -6,4 +6,4 @@ use Rattle.expr.proofs.is_constant_subtree.Goals as goal
 ruleset laws = (rules, turned_round)
 
 pub returns : goal.returns
-returns c = search (laws, c.in_ok-dep.ensures)
+returns c = search (laws, c.in_ok-has_var_dep.ensures)

@@ -73,15 +73,15 @@ returns-in-Zero g t c = search laws
 pub returns-in-One : goal.returns-in-One
 returns-in-One g t c =
     let e = known_arity c.args.ws.now _ c.arity_of.ensures _ c.unwrap.ensures in
-    unary_read c.args.ws.now _ e _ c.in-One.is _ _ c.fold_at-words.ensures _ c.unary_kind.ensures c.unary.ensures
+    unary_read c.args.ws.now _ e _ c.in-One.is _ _ c.fold_at-words.ensures _ c.of-in-One.ensures c.unary.ensures
 
 pub returns-in-Two : goal.returns-in-Two
 returns-in-Two g t c =
     let e = known_arity c.args.ws.now _ c.arity_of.ensures _ c.unwrap.ensures in
-    binary_read c.args.ws.now _ e _ c.in-Two.is _ _ _ _ c.fold_at-left.ensures c.fold_at-right.ensures _ c.binary_kind.ensures c.binary.ensures
+    binary_read c.args.ws.now _ e _ c.in-Two.is _ _ _ _ c.fold_at-left.ensures c.fold_at-right.ensures _ c.of-in-Two.ensures c.binary.ensures
 
-pub leaf_kind-requires : goal.leaf_kind-requires
-leaf_kind-requires g t c = search laws
+pub of-requires : goal.of-requires
+of-requires g t c = search laws
 
-pub unary_kind-requires : goal.unary_kind-requires
-unary_kind-requires g t c = search laws
+pub of-requires-in-One : goal.of-requires-in-One
+of-requires-in-One g t c = search laws

@@ -1,5 +1,7 @@
 -- Something or nothing: what the definitions need of the Rust's `Option`. Definitions only.
 use Rattle.std.specs.Prelude.{Bool, true, false, ℕ, eqb}
+use Rattle.std.specs.Prelude.{Some, None}
+use Rattle.std.specs.Prelude as answered
 use Rattle.std.proofs.Math.Option.{Option, none, some}
 
 infixr 2 ◌otherwise◌
@@ -37,3 +39,8 @@ module _ {A B : Type 0} where
 abbrev pub ◌equals_some◌ : Option ℕ → ℕ → Bool
 ◌equals_some◌ none c = false
 ◌equals_some◌ (some d) c = eqb d c
+
+-- the same of a call's answer
+abbrev pub option_of : {A : Type 0} → answered.Option A → Option A
+option_of None = none
+option_of (Some a) = some a
