@@ -17,7 +17,8 @@ use Rattle.expr.specs.Parts.{Laid}
 use Rattle.expr.specs.Lent.{lent_after}
 use Rattle.expr.specs.Front.{Exactly, Whole, tree_at}
 use Rattle.expr.specs.PartLaws.{exact_tree, exact_whole, exact_length}
-use Rattle.width.specs.Checked.{checked, with_words}
+use Rattle.width.specs.Checked.{checked}
+use Rattle.expr.specs.Room.{with_words}
 use Rattle.width.specs.CheckedLaws.{Tree, checked_tree, too_little, enough, Admitted, admitted_sound}
 use Rattle.rewriting.specs.MatchLaws.{neg_number}
 use Rattle.rewriting.specs.AtomIdentityRewrite as def

@@ -3,7 +3,8 @@ use Rattle.std.specs.Prelude.{List, [], ℕ, length}
 use Rattle.std.proofs.Math.Option.{Option, none, some}
 use Rattle.expr.specs.Outcome.{Outcome, mapped, ◌and_then◌}
 use Rattle.expr.specs.Expr.{encode, nodes}
-use Rattle.width.specs.Checked.{checked, with_words}
+use Rattle.width.specs.Checked.{checked}
+use Rattle.expr.specs.Room.{with_words}
 use Rattle.rewriting.specs.AtomIdentityRewrite.{Candidate, candidates}
 use Rattle.rewriting.specs.CandidateClaims.{numbered}
 

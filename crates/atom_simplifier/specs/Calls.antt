@@ -5,7 +5,8 @@ use Rattle.expr.specs.Refusals.{refusal}
 use Rattle.expr.specs.Outcome.{Outcome, refused, accepted, mapped, ◌and_then◌}
 use Rattle.expr.specs.Expr.{Expr, nodes}
 use Rattle.expr.specs.Lent.{lent_after}
-use Rattle.width.specs.Checked.{checked, room_for}
+use Rattle.width.specs.Checked.{checked}
+use Rattle.expr.specs.Room.{room_for}
 use Rattle.value.specs.Value.{one_width_of}
 use Rattle.expr.specs.Optional.{map, ◌otherwise◌}
 use Rattle.rewriting.specs.Measures.{D}

@@ -1,7 +1,7 @@
 -- A tree that is read, and the trees below a node, by the parts of its words. Assumes nothing.
 use Rattle.std.specs.Result.{is_ok, IsOk}
-use Rattle.std.specs.Prelude.{Result, Ok, Err, ◌≡◌, refl, Bool, true, false, ◌&&◌, List, ℕ, ◌+◌, ◌/◌, ◌%◌, ◌≤◌, ◌++◌, eqb, length, get_or}
-use Rattle.std.proofs.Common.{sym, ap, ap₂, ◌∙◌, arith, Fits, w64, length-append, eq-eqb, ne_eqb}
+use Rattle.std.specs.Prelude.{Result, Ok, Err, ◌≡◌, refl, Bool, true, false, ◌&&◌, List, ℕ, ◌+◌, ◌/◌, ◌%◌, ◌≤◌, ◌<◌, ◌++◌, eqb, length, get_or}
+use Rattle.std.proofs.Common.{sym, ap, ap₂, ◌∙◌, arith, Fits, w64, length-append, eq-eqb, ne_eqb, lt-ltb, le-ltb}
 use Rattle.std.proofs.Math.Option.{none, some}
 use Rattle.expr.specs.declared.refusal.Reason.{Reason}
 use Rattle.expr.specs.declared.refusal.Refusal.{Refusal}
@@ -13,7 +13,8 @@ use Rattle.expr.specs.declared.kind.Binary.{Binary}
 use Rattle.expr.specs.declared.kind.Binary.TheVariants.{Add, Mul, And, Or, Xor, Concat}
 use Rattle.expr.specs.declared.Arity.{Arity}
 use Rattle.expr.specs.declared.Arity.TheVariants.{Zero, One, Two}
-use Rattle.expr.specs.Refusals.{reason_of}
+use Rattle.expr.specs.Refusals.{refusal, reason_of}
+use Rattle.expr.specs.Room.{room_for}
 use Rattle.expr.specs.Outcome.{Outcome, refused, accepted, mapped}
 use Rattle.expr.specs.OutcomeLaws.{no_answer}
 use Rattle.expr.specs.Expr.{Expr, leaf, unary, binary, leaf_number, leaf_operand, unary_number, unary_operand, binary_number, encode, nodes}
@@ -253,3 +254,14 @@ module _ (ws : List ℕ) (x : Whole ws) (d : Result Arity Refusal) (h : arity_ou
         ∙ sym n.is
 
 pub ruleset node_laws = (parts, known, one_is, two_is, leaf_held, unary_held, node_leaf, node_one, node_two)
+
+-- ---- `with_room`
+
+module _ (need : Expr → ℕ) (room : ℕ) (t : Expr) where
+  pub no_room : room < need t → refused (refusal 9) ≡ room_for need room t
+  unfolding room_for
+  no_room h = sym (rw (lt-ltb room (need t) h))
+
+  pub has_room : need t ≤ room → accepted t ≡ room_for need room t
+  unfolding room_for
+  has_room h = sym (rw (le-ltb room (need t) h))

@@ -8,6 +8,7 @@ pub mod Parts
 pub mod Optional
 pub mod Front
 pub mod Trees
+pub mod Room
 pub mod Lent
 pub mod SameWords
 pub mod Answers

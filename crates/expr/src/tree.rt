@@ -31,7 +31,8 @@ impl<'a> Tree<'a> {
     ghost use Rattle.expr.specs.SameWords.{same_words};
     ghost use Rattle.expr.specs.Answers.{outcome};
     ghost use Rattle.expr.specs.Trees.{tree_of, node_of, constant_of, operand_of, operands_of, optional_tree, optional_trees};
-    ghost use Rattle.std.specs.Prelude.{get_or, ◌+◌};
+    ghost use Rattle.expr.specs.Room.{room_for};
+    ghost use Rattle.std.specs.Prelude.{get_or, ◌+◌, ◌*◌};
 
     // The tree that the words are, or the refusal.
     #[tactic(auto, using(crate::proofs::ChildLaws::reading))]
@@ -48,6 +49,16 @@ impl<'a> Tree<'a> {
         ensures { result ≡ nodes (tree_of self.entry) }
     {
         self.words.len() / 2
+    }
+
+    // The tree, where so many words have room for so many nodes more than it has.
+    pub fn with_room(self, room: usize, more: usize) -> Result<Tree<'a>, Refusal>
+        ensures { mapped tree_of (outcome result) ≡ room_for (λ t. 2 * (nodes t + more)) room (tree_of self.entry) }
+    {
+        if room / 2 < self.nodes().saturating_add(more) {
+            return Err(Refusal::OutputTooSmall);
+        }
+        Ok(self)
     }
 
     // The word of a Constant.

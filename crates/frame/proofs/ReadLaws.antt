@@ -22,7 +22,8 @@ use Rattle.frame.specs.Frame.{nodes_in, line_words, unended, framed, read_frame}
 use Rattle.frame.specs.FrameLaws.{bytes_of_nodes, line_read, unended_last}
 use Rattle.frame.specs.Answers.{line_outcome, Decodes}
 use Rattle.frame.specs.Promises.{read_line, Reads}
-use Rattle.width.specs.Checked.{checked, with_words}
+use Rattle.width.specs.Checked.{checked}
+use Rattle.expr.specs.Room.{with_words}
 use Rattle.width.specs.CheckedLaws.{Tree, checked_tree, too_little, enough}
 use Rattle.frame.specs.declared.Frame.{Frame}
 

@@ -3,7 +3,8 @@ use Rattle.std.specs.Prelude.{◌&&◌, List, [], ◌∷◌, ◌++◌, ℕ, ◌+
 use Rattle.expr.specs.Refusals.{refusal}
 use Rattle.expr.specs.Outcome.{Outcome, refused, accepted, ◌and_then◌}
 use Rattle.expr.specs.Expr.{Expr, encode, nodes}
-use Rattle.width.specs.Checked.{checked, room_for, with_words}
+use Rattle.width.specs.Checked.{checked}
+use Rattle.expr.specs.Room.{room_for, with_words}
 use Rattle.hexadecimal.specs.Hex.{digits, all_digits, number_of}
 use Rattle.hexadecimal.specs.Nodes.{nodes_text, words_of}
 

@@ -14,7 +14,8 @@ use Rattle.expr.specs.Parse.{Kind, none, one, two, kind_at, kinds, parse}
 use Rattle.expr.specs.ParseLaws.{parse_sound, parse_encode}
 use Rattle.width.specs.Width.{supported}
 use Rattle.width.specs.WidthLaws.{supported_is}
-use Rattle.width.specs.Checked.{checked, room_for, with_words}
+use Rattle.width.specs.Checked.{checked}
+use Rattle.expr.specs.Room.{room_for, with_words}
 use Rattle.width.specs.CheckedLaws.{admitted_sound}
 use Rattle.hexadecimal.specs.Hex.{digits, all_digits, number_of}
 use Rattle.hexadecimal.specs.HexLaws.{all_append, all_take, all_drop, all_digits_lem, length_digits, number_digits, digits_number}

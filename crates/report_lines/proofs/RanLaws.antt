@@ -20,7 +20,7 @@ use Rattle.expr.specs.ParseLaws.{parse_sound}
 use Rattle.expr.specs.Parse.{Accepts}
 use Rattle.expr.specs.Front.{Exactly, tree_at}
 use Rattle.expr.specs.PartLaws.{exact_tree, exact_whole}
-use Rattle.width.specs.Checked.{room_for}
+use Rattle.expr.specs.Room.{room_for}
 use Rattle.width.specs.CheckedLaws.{enough, roomy}
 use Rattle.value.specs.Value.{one_width_of}
 use Rattle.value.specs.ValueLaws.{one_width_sound}

@@ -8,12 +8,13 @@ use Rattle.expr.specs.declared.refusal.Refusal.{Refusal}
 use Rattle.expr.specs.declared.kind.Leaf.{Leaf}
 use Rattle.expr.specs.declared.kind.Unary.{Unary}
 use Rattle.expr.specs.declared.kind.Binary.{Binary}
-use Rattle.expr.specs.Outcome.{Outcome, refused, accepted, ◌and_then◌}
+use Rattle.expr.specs.Outcome.{Outcome, refused, accepted, mapped, ◌and_then◌}
 use Rattle.expr.specs.Expr.{Expr, leaf, unary, binary}
 use Rattle.expr.specs.Answers.{outcome}
 use Rattle.width.specs.declared.widths.Widths.{Widths}
 use Rattle.width.specs.Width.{ranged, valid, unary_width, binary_width, checked_width_of, unary_rule, binary_rule, validate_widths, or_zero, width_of}
-use Rattle.width.specs.Promises.{WidthsOf}
+use Rattle.width.specs.Promises.{WidthsOf, both_of}
+use Rattle.expr.specs.OutcomeLaws.{no_answer, same_answer}
 
 -- the first refusal of two, or the second answer
 and_outcome : {A B : Type 0} (a : Result A Refusal) (b : Result B Refusal) → outcome (result_and a b) ≡ (outcome a and_then (λ x. outcome b))
@@ -72,12 +73,10 @@ module _ (widths : List ℕ) (d : ℕ) (w : Result ℕ Refusal) where
             ∙ (λ j. own j and_then (λ x. a.valid_is j and_then (λ y. b.valid_is j and_then (λ z. (f ∙ ap₂ (binary_rule k) a.width_is b.width_is) j))));
       }
 
--- a width, 0 where there is none
-module _ (widths : List ℕ) (d : ℕ) (found : Widths) (t : Expr) (e : WidthsOf widths d found t) where
-  pub width_some : (w : ℕ) → found.width ≡ Ok w → w ≡ width_of widths d t
-  unfolding width_of
-  width_some w f = ap or_zero (sym (ap outcome f) ∙ e.width_is)
+-- ---- the tree that the words are: 0 where there is no width
 
-  pub width_none : (r : Refusal) → found.width ≡ Err r → 0 ≡ width_of widths d t
-  unfolding width_of
-  width_none r f = ap or_zero (sym (ap outcome f) ∙ e.width_is)
+pub zero_read : (widths : List ℕ) (d : ℕ) (found : Widths) (o : Outcome Expr) → accepted (both_of found) ≡ mapped (λ t. (checked_width_of widths d t, validate_widths widths d t)) o
+    → (n : ℕ) → n ≡ or_zero (outcome found.width) → accepted n ≡ mapped (width_of widths d) o
+unfolding width_of
+zero_read widths d found (refused r) e n f = absurd (no_answer (sym e))
+zero_read widths d found (accepted t) e n f = ap accepted (f ∙ ap or_zero (ap (λ (p : Outcome ℕ × Outcome Unit). p.0) (same_answer e)))

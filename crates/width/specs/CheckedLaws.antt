@@ -1,22 +1,48 @@
 -- What follows a check at a width, and one of the room. Assumes nothing.
-use Rattle.std.specs.Prelude.{◌≡◌, true, List, ℕ, ◌≤◌, ◌<◌, ltb}
-use Rattle.std.proofs.Common.{◌∙◌, arith, lt-ltb, le-ltb, ltb-false}
+use Rattle.std.specs.Prelude.{◌≡◌, Bool, true, false, if◌then◌else◌, List, ℕ, ◌≤◌, ◌<◌, ltb}
+use Rattle.std.proofs.Common.{sym, ◌∙◌, arith, lt-ltb, le-ltb, ltb-false}
 use Rattle.std.proofs.Math.Path.{ap, subst}
+use Rattle.expr.specs.declared.refusal.Reason.{Reason}
 use Rattle.expr.specs.Refusals.{refusal}
 use Rattle.expr.specs.Outcome.{Outcome, refused, accepted, mapped, ◌and_then◌}
-use Rattle.expr.specs.OutcomeLaws.{same_answer, if_came, else_came, then_accepted, mapped_made, then_came}
+use Rattle.expr.specs.OutcomeLaws.{no_answer, same_answer, if_came, else_came, then_accepted, mapped_made, then_came}
 use Rattle.expr.specs.Expr.{Expr, encode, nodes, depth}
 use Rattle.expr.specs.Parse.{parse}
 use Rattle.expr.specs.ParseLaws.{parse_sound}
 use Rattle.expr.specs.Front.{Exactly}
 use Rattle.width.specs.Width.{supported}
 use Rattle.width.specs.WidthLaws.{supported_is}
-use Rattle.width.specs.Checked.{checked, room_for}
+use Rattle.width.specs.Checked.{checked, width_of_call}
+use Rattle.expr.specs.Room.{room_for}
 
 -- words that pass are accepted, and the width is supported
 pub checked_is : (w : ℕ) (ws : List ℕ) (t : Expr) → checked w ws ≡ accepted t → (supported w ≡ true) × (parse ws ≡ accepted t)
 unfolding checked
 checked_is w ws t = if_came (parse ws) (refusal 1) (supported w)
+
+-- ---- the width, and then the words
+
+module _ (w : ℕ) where
+  module _ (b : ℕ) (e : accepted b ≡ width_of_call w) where
+    pub given_width : b ≡ w
+    unfolding width_of_call
+    given_width = sym (same_answer (if_came (accepted w) (refusal 1) (supported w) (sym e)).1)
+
+    supports : supported w ≡ true
+    unfolding width_of_call
+    supports = (if_came (accepted w) (refusal 1) (supported w) (sym e)).0
+
+    pub checked_parse : (ws : List ℕ) → parse ws ≡ checked w ws
+    unfolding checked
+    checked_parse ws = sym (rw supports)
+
+  pub width_refused : (r : Reason) → refused r ≡ width_of_call w → (ws : List ℕ) → refused r ≡ checked w ws
+  unfolding width_of_call checked
+  width_refused r e ws = go (supported w) e
+    where
+      go : (b : Bool) → refused r ≡ (if b then accepted w else refused (refusal 1)) → refused r ≡ (if b then parse ws else refused (refusal 1))
+      go true f = absurd (no_answer f)
+      go false f = ap refused (cc)
 
 -- a tree that was checked, and how many nodes it has
 pub record Tree (w : ℕ) (ws : List ℕ) (n : ℕ) : Type 0 where

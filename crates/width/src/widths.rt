@@ -5,16 +5,18 @@ ghost use Rattle.expr.specs.declared.kind.Leaf.{Leaf};
 ghost use Rattle.expr.specs.declared.kind.Unary.{Unary};
 ghost use Rattle.expr.specs.declared.kind.Binary.{Binary};
 ghost use Rattle.expr.specs.declared.kind.Binary.TheVariants.{Concat};
-ghost use Rattle.expr.specs.Outcome.{◌and_then◌};
+ghost use Rattle.expr.specs.Outcome.{mapped, ◌and_then◌};
+ghost use Rattle.expr.specs.Parse.{parse};
 ghost use Rattle.expr.specs.Answers.{outcome};
-ghost use Rattle.width.specs.Width.{ranged, unary_width, binary_width, checked_width_of, unary_rule, binary_rule, unary_keeps, binary_keeps, is_uniform_width};
-ghost use Rattle.width.specs.Promises.{WidthsOf, Summable};
+ghost use Rattle.width.specs.Width.{ranged, unary_width, binary_width, checked_width_of, validate_widths, unary_rule, binary_rule, unary_keeps, binary_keeps, is_uniform_width};
+ghost use Rattle.width.specs.Promises.{WidthsOf, both_of, Summable};
 ghost use Rattle.width.specs.WidthLaws.{width_summable};
 
 use crate::is_supported;
 use expr::fold::Fold;
 use expr::kind::{Binary, Leaf, Unary};
 use expr::refusal::Refusal;
+use expr::tree::Tree;
 
 // A width list and the default width.
 #[derive(Clone, Copy)]
@@ -28,10 +30,10 @@ impl VariableWidths<'_> {
     fn of(&self, number: u32) -> u32
         ensures { result ≡ get_or self.now.list.now number self.now.default }
     {
-        match self.list.get(number as usize) {
-            Some(width) => *width,
-            None => self.default,
-        }
+        self.list
+            .get(number as usize)
+            .copied()
+            .unwrap_or(self.default)
     }
 
     #[tactic(auto, unfolding(crate::specs::Width::checked_width_of))]
@@ -173,6 +175,14 @@ impl Fold for VariableWidths<'_> {
             valid: width.and(left.valid).and(right.valid).and(rule),
         }
     }
+}
+
+// The widths of the tree that the words are, or the refusal.
+pub(crate) fn widths_of(words: &[u64], list: &[u32], default: u32) -> Result<Widths, Refusal>
+    ensures { mapped both_of (outcome result) ≡ mapped (λ t. (checked_width_of list.now default t, validate_widths list.now default t)) (parse words.now) }
+{
+    let variables = VariableWidths { list, default };
+    Ok(Tree::read(words)?.fold(&variables))
 }
 
 // Whether a tree is uniform at a width, which is the default width too.

@@ -1,10 +1,7 @@
 -- `width::width_of` meets its contract. Assumes nothing.
-use Rattle.expr.specs.FrontLaws.{folded}
-use Rattle.width.proofs.NodeLaws.{width_some, width_none}
+use borrow.Author.Rules.{rules}
+use Rattle.width.proofs.NodeLaws.{zero_read}
 use Rattle.width.proofs.width_of.Goals as goal
 
-pub returns-in-Ok : goal.returns-in-Ok
-returns-in-Ok c = folded _ _ c.in_ok-tree.ensures _ _ (λ t e. width_some _ _ _ t (c.fold.ensures t e) _ c.in-Ok.is)
-
-pub returns-in-Err : goal.returns-in-Err
-returns-in-Err c = folded _ _ c.in_ok-tree.ensures _ _ (λ t e. width_none _ _ _ t (c.fold.ensures t e) _ c.in-Err.is)
+pub returns : goal.returns
+returns c = zero_read _ _ _ _ c.in_ok-widths_of.ensures _ (search (rules, c.unwrap_or.ensures))
