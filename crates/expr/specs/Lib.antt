@@ -13,6 +13,7 @@ pub mod Lent
 pub mod SameWords
 pub mod Answers
 pub mod RefusalLaws
+pub mod OptionalLaws
 pub mod OutcomeLaws
 pub mod KindLaws
 pub mod ExprLaws

@@ -43,10 +43,7 @@ fn own_weight(nonlinear: bool) -> u32
 fn is_nonlinear(kind: Binary, left: bool, right: bool) -> bool
     ensures { (l r : Expr) → left ≡ has_var_dep_of l → right ≡ has_var_dep_of r → result ≡ is_nonlinear kind l r }
 {
-    match kind {
-        Binary::Mul => left && right,
-        _ => false,
-    }
+    kind == Binary::Mul && left && right
 }
 
 // The walk that finds a tree's cost.
@@ -70,10 +67,7 @@ impl Fold for Costs {
         };
         CostInfo {
             cost,
-            has_var_dep: match kind {
-                Leaf::Constant(_) => false,
-                Leaf::Variable(_) => true,
-            },
+            has_var_dep: matches!(kind, Leaf::Variable(_)),
         }
     }
 
@@ -111,8 +105,7 @@ impl Fold for Costs {
 pub fn compute_cost(words: &[u64]) -> Result<CostInfo, Refusal>
     ensures { outcome result ≡ mapped compute_cost (parse words.now) }
 {
-    let tree = Tree::read(words)?;
-    Ok(tree.fold(&Costs))
+    Ok(Tree::read(words)?.fold(&Costs))
 }
 
 // Whether a cost is strictly below another.

@@ -7,7 +7,6 @@ use Rattle.expr.specs.Expr.{Expr, leaf, unary, binary, encode}
 use Rattle.expr.specs.declared.kind.Leaf.TheVariants.{Constant, Variable}
 use Rattle.expr.specs.declared.kind.Unary.{Unary}
 use Rattle.expr.specs.declared.kind.Unary.TheVariants.{Not, Neg, Shr, ZExt, SExt, Trunc}
-use Rattle.expr.specs.declared.kind.Binary.{Binary}
 use Rattle.expr.specs.declared.kind.Binary.TheVariants.{Add, Mul, And, Or, Xor}
 use Rattle.expr.specs.SameWords.{same_words}
 use Rattle.expr.specs.Trees.{operands_of}

@@ -3,7 +3,6 @@ pub mod Measures
 pub mod AtomIdentityRewrite
 pub mod CandidateClaims
 pub mod Chain
-pub mod OptionalLaws
 pub mod TestLaws
 pub mod FoldLaws
 pub mod ValueKeptLaws

@@ -2,8 +2,9 @@
 // gives it none of the refusals 1 to 8; a setting is a list that has a word for each variable, by its number.
 #![tactic(auto)]
 
-ghost use Rattle.std.specs.Prelude.{◌≡◌};
-ghost use Rattle.expr.specs.Expr.{encode, nodes};
+ghost use Rattle.std.specs.Prelude.{◌≡◌, IfOk};
+ghost use Rattle.expr.specs.Expr.{nodes};
+ghost use Rattle.expr.specs.Trees.{tree_of};
 ghost use Rattle.expr.specs.Outcome.{mapped, ◌and_then◌};
 ghost use Rattle.expr.specs.Answers.{outcome};
 ghost use Rattle.value.specs.Value.{one_width_of, value_at};
@@ -13,26 +14,30 @@ mod values;
 use expr::refusal::Refusal;
 use expr::tree::Tree;
 use values::Values;
+use width::Width;
 
-// The tree of one width that the words are, or the first of the refusals 1 to 8.
-pub fn one_width<'a>(words: &'a [u64], width: u32, var_widths: &[u32]) -> Result<Tree<'a>, Refusal>
-    ensures { mapped (λ t. t.words.now) (outcome result) ≡ mapped encode (one_width_of words.now width var_widths.now) }
+// The tree of one width that the words are and this width, or the first of the refusals 1 to 8.
+pub fn one_width<'a>(
+    words: &'a [u64],
+    width: u32,
+    var_widths: &[u32],
+) -> Result<(Tree<'a>, Width), Refusal>
+    ensures tree { mapped (λ p. tree_of p.0) (outcome result) ≡ one_width_of words.now width var_widths.now }
+    ensures width { IfOk result (λ p. p.1.bits ≡ width) }
 {
-    if !width::is_supported(width) {
-        return Err(Refusal::WidthOutOfRange);
-    }
+    let supported = Width::try_from(width)?;
     let tree = Tree::read(words)?;
     if !width::is_uniform(tree, var_widths, width) {
         return Err(Refusal::NotUniform);
     }
-    Ok(tree)
+    Ok((tree, supported))
 }
 
 // The nodes of a tree of one width, or the refusal.
 pub fn check_one_width(words: &[u64], width: u32, var_widths: &[u32]) -> Result<usize, Refusal>
     ensures { outcome result ≡ mapped nodes (one_width_of words.now width var_widths.now) }
 {
-    let tree = one_width(words, width, var_widths)?;
+    let (tree, _) = one_width(words, width, var_widths)?;
     Ok(tree.nodes())
 }
 
@@ -40,7 +45,7 @@ pub fn check_one_width(words: &[u64], width: u32, var_widths: &[u32]) -> Result<
 pub fn value(words: &[u64], width: u32, var_widths: &[u32], setting: &[u64]) -> Result<u64, Refusal>
     ensures { outcome result ≡ (one_width_of words.now width var_widths.now and_then value_at width setting.now) }
 {
-    let tree = one_width(words, width, var_widths)?;
+    let (tree, width) = one_width(words, width, var_widths)?;
     let values = Values { width, setting };
     tree.fold(&values).ok_or(Refusal::NoWord)
 }

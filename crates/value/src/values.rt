@@ -1,5 +1,5 @@
 // The walk that finds a tree's value.
-ghost use Rattle.std.specs.Prelude.{◌≡◌, ◌≤◌, ◌<◌, ◌^◌};
+ghost use Rattle.std.specs.Prelude.{◌≡◌, ◌<◌, ◌^◌};
 ghost use Rattle.expr.specs.declared.kind.Unary.{Unary};
 ghost use Rattle.expr.specs.declared.kind.Binary.{Binary};
 ghost use Rattle.value.specs.Value.{unary_value, binary_value};
@@ -7,29 +7,28 @@ ghost use Rattle.value.specs.Promises.{value_if_lent};
 
 use expr::fold::Fold;
 use expr::kind::{Binary, Leaf, Unary};
+use width::Width;
 
 // The shift is by the operand as a number: from the width up nothing is left.
 #[tactic(auto, using(crate::proofs::NodeLaws::not_value, crate::proofs::NodeLaws::neg_value, crate::proofs::NodeLaws::shr_value))]
-fn unary_value(kind: Unary, x: u64, width: u32) -> u64
-    requires { width ≤ 64 }
-    ensures { x < 2 ^ width → result ≡ unary_value width kind x }
+fn unary_value(kind: Unary, x: u64, width: Width) -> u64
+    ensures { x < 2 ^ width.bits → result ≡ unary_value width.bits kind x }
 {
     match kind {
-        Unary::Not => arith::mod_not(x, width),
-        Unary::Neg => arith::mod_neg(x, width),
-        Unary::Shr(shift) => arith::mod_shr(x, u64::from(shift), width),
+        Unary::Not => arith::mod_not(x, width.bits),
+        Unary::Neg => arith::mod_neg(x, width.bits),
+        Unary::Shr(shift) => arith::mod_shr(x, u64::from(shift), width.bits),
         // no tree of one width has a cast
         Unary::ZExt(_) | Unary::SExt(_) | Unary::Trunc(_) => 0,
     }
 }
 
-fn binary_value(kind: Binary, x: u64, y: u64, width: u32) -> u64
-    requires { width ≤ 64 }
-    ensures { result ≡ binary_value width kind x y }
+fn binary_value(kind: Binary, x: u64, y: u64, width: Width) -> u64
+    ensures { result ≡ binary_value width.bits kind x y }
 {
     match kind {
-        Binary::Add => arith::mod_add(x, y, width),
-        Binary::Mul => arith::mod_mul(x, y, width),
+        Binary::Add => arith::mod_add(x, y, width.bits),
+        Binary::Mul => arith::mod_mul(x, y, width.bits),
         Binary::And => x & y,
         Binary::Or => x | y,
         Binary::Xor => x ^ y,
@@ -41,15 +40,14 @@ fn binary_value(kind: Binary, x: u64, y: u64, width: u32) -> u64
 // A width and a setting. A tree has a value if the setting has a word for each of its variables.
 #[derive(Clone, Copy)]
 pub(crate) struct Values<'a> {
-    pub(crate) width: u32,
+    pub(crate) width: Width,
     pub(crate) setting: &'a [u64],
-    ghost supported: { width ≤ 64 },
 }
 
 impl Fold for Values<'_> {
     type Found = Option<u64>;
 
-    ghost gives = { λ values found t. found ≡ value_if_lent values.width values.setting.now t };
+    ghost gives = { λ values found t. found ≡ value_if_lent values.width.bits values.setting.now t };
 
     ghost fits = { λ _ _. Unit };
 
@@ -57,10 +55,10 @@ impl Fold for Values<'_> {
 
     fn leaf(&self, kind: Leaf) -> Option<u64> {
         match kind {
-            Leaf::Constant(word) => Some(arith::trunc(word, self.width)),
+            Leaf::Constant(word) => Some(arith::trunc(word, self.width.bits)),
             Leaf::Variable(number) => {
                 let word = self.setting.get(number as usize)?;
-                Some(arith::trunc(*word, self.width))
+                Some(arith::trunc(*word, self.width.bits))
             }
         }
     }
