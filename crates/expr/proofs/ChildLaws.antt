@@ -29,9 +29,9 @@ use Rattle.expr.specs.SpanLaws.{span_counted, span_not_refused}
 use Rattle.expr.specs.Optional.{only_if}
 use Rattle.expr.specs.Parts.{tail, part}
 use Rattle.expr.specs.TailLaws.{length_tail}
-use Rattle.expr.specs.Front.{Starts, Exactly, Whole, tree_at, left_of, right_of}
+use Rattle.expr.specs.Front.{Front, Starts, Leads, Exactly, Whole, tree_at, left_of, right_of}
 use Rattle.expr.specs.FrontLaws.{is_tree, leaf_node, has_arity, known_arity}
-use Rattle.expr.specs.PartLaws.{parts, exact_length, exact_tree, exact_whole, exact_front, one_child, two_children, child_tree, left_tree, right_tree}
+use Rattle.expr.specs.PartLaws.{parts, starts_lead, exact_length, exact_tree, exact_whole, exact_front, one_child, two_children, child_tree, left_tree, right_tree}
 use Rattle.expr.proofs.FoldLaws.{leaf_fits, unary_operand_fits}
 use Rattle.expr.specs.Trees.{constant_of, operand_of, operands_of}
 
@@ -67,6 +67,12 @@ module _ (ws : List ℕ) (x : Whole ws) where
 
   pub whole_starts : Starts ws
   whole_starts = record { tree = tree_at ws; front = exact_front ws (tree_at ws) x }
+
+  pub whole_front : Front ws (tree_at ws)
+  whole_front = exact_front ws (tree_at ws) x
+
+  pub whole_leads : Leads ws
+  whole_leads = starts_lead ws whole_starts
 
 module _ (ws : List ℕ) where
   word : (t : Expr) → Exactly ws t → get_or (encode t) 0 0 ≡ get_or ws 0 0

@@ -5,6 +5,7 @@ use Rattle.expr.specs.Outcome.{Outcome, refused, accepted}
 use Rattle.expr.specs.Expr.{Expr, leaf, unary, binary, encode}
 use Rattle.expr.specs.declared.kind.Leaf.TheVariants.{Constant}
 use Rattle.expr.specs.Parse.{operands_ok, subtree}
+use Rattle.expr.specs.Parts.{part}
 
 -- the words begin with those of the tree, whose operands are in range
 pub record Front (ws : List ℕ) (t : Expr) : Type 0 where
@@ -45,6 +46,10 @@ pub record Exactly (ws : List ℕ) (t : Expr) : Type 0 where
 -- the words are exactly those of a tree
 abbrev pub Whole : List ℕ → Type 0
 Whole ws = Exactly ws (tree_at ws)
+
+-- the words begin with exactly those of a tree
+abbrev pub Leads : List ℕ → Type 0
+Leads ws = Exactly (part 0 (length (encode (tree_at ws))) ws) (tree_at ws)
 
 -- a node's first child; the tree itself where it has none
 abbrev pub left_of : Expr → Expr

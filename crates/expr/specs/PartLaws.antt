@@ -7,6 +7,7 @@ use native.Mathlib.Omega.{arith}
 use Rattle.std.proofs.Math.ListN.{length, take, drop, get_or, length-append}
 use Rattle.std.proofs.Math.Seq.{take_at, drop_at}
 use Rattle.std.proofs.Math.Facts.{and_yes}
+use Rattle.std.proofs.lemmas.List.{take-append-drop}
 use Rattle.expr.specs.Outcome.{accepted}
 use Rattle.expr.specs.Expr.{Expr, leaf, unary, binary, unary_number, unary_operand, binary_number, encode, nodes, depth}
 use Rattle.expr.specs.declared.kind.Unary.{Unary}
@@ -15,7 +16,7 @@ use Rattle.expr.specs.ExprLaws.{nodes_pos, depth_nodes, length_encode}
 use Rattle.expr.specs.Parse.{Kind, none, one, two, arity, arity_of, operand_ok, operands_ok, subtree}
 use Rattle.expr.specs.ParseLaws.{subtree_encode}
 use Rattle.expr.specs.KindLaws.{number, operand, number_arity}
-use Rattle.expr.specs.Front.{Front, Starts, read_tree, tree_at, Exactly, Whole, left_of, right_of}
+use Rattle.expr.specs.Front.{Front, Starts, Leads, read_tree, tree_at, Exactly, Whole, left_of, right_of}
 use Rattle.expr.specs.Parts.{tail, part}
 use Rattle.expr.specs.TailLaws.{tail_drop, length_tail}
 
@@ -69,6 +70,23 @@ module _ (ws : List ℕ) (t : Expr) where
 
 pub starts_front : (ws : List ℕ) → Starts ws → Front ws (tree_at ws)
 starts_front ws s = subst (Front ws) (sym (front_tree ws s.tree s.front)) s.front
+
+-- words that begin with those of a tree, in either form
+module _ (ws : List ℕ) where
+  pub starts_lead : Starts ws → Leads ws
+  starts_lead s = front_part ws (tree_at ws) (starts_front ws s) (length (encode (tree_at ws))) refl
+
+  pub lead_starts : Leads ws → Starts ws
+  lead_starts x = record {
+    tree = tree_at ws;
+    front = record {
+      rest = drop (length (encode (tree_at ws)) - 0) ws;
+      words =
+          sym (take-append-drop (length (encode (tree_at ws)) - 0) ws)
+          ∙ ap (λ (l : List ℕ). l ++ drop (length (encode (tree_at ws)) - 0) ws) x.words;
+      operands = x.operands;
+    };
+  }
 
 -- ---- a node, as its arity tells
 

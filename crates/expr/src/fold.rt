@@ -1,12 +1,12 @@
 // The one walk over a tree.
-ghost use Rattle.std.specs.Prelude.{◌≤◌, length};
+ghost use Rattle.std.specs.Prelude.{◌≤◌};
 ghost use Rattle.expr.specs.Expr.{Expr, leaf, unary, binary, nodes};
-ghost use Rattle.expr.specs.Front.{Starts, Read};
+ghost use Rattle.expr.specs.Front.{Read};
 ghost use Rattle.expr.specs.Trees.{tree_of};
 
+use crate::Arity;
 use crate::kind::{Binary, Leaf, Unary};
-use crate::tree::Tree;
-use crate::{Arity, arity_of};
+use crate::tree::{Tree, Walk};
 
 // What is found of a tree, a node after its children.
 pub trait Fold {
@@ -40,31 +40,32 @@ struct Found<T> {
 }
 
 // The tree that the words begin with.
-fn fold_at<F: Fold>(by: &F, ws: &[u64]) -> Found<F::Found>
-    requires { Starts ws.now × (length ws.now ≤ 1024) }
-    ensures { Read ws.now result.words (F.gives by.now result.found) }
+fn fold_at<F: Fold>(by: &F, walk: Walk<'_>) -> Found<F::Found>
+    ensures { Read walk.entry.words.now result.words (F.gives by.now result.found) }
 {
+    let ws = walk.words;
     let kind = ws[0];
     let rest = &ws[2..];
-    match arity_of(kind).unwrap() {
+    match walk.arity() {
         Arity::Zero => Found {
             words: 2,
             found: by.leaf(Leaf::of(kind, ws[1])),
         },
         Arity::One => {
-            let Found { words, found } = fold_at(by, rest);
+            let Found { words, found } = fold_at(by, Walk { words: rest });
             Found {
                 words: words + 2,
                 found: by.unary(Unary::of(kind, ws[1]), found),
             }
         }
         Arity::Two => {
-            let left = fold_at(by, rest);
+            let left = fold_at(by, Walk { words: rest });
             let Found {
                 words: from,
                 found: left,
             } = left;
-            let right = fold_at(by, &rest[from..]);
+            let right = &rest[from..];
+            let right = fold_at(by, Walk { words: right });
             let Found {
                 words,
                 found: right,
@@ -79,14 +80,14 @@ fn fold_at<F: Fold>(by: &F, ws: &[u64]) -> Found<F::Found>
 
 impl Tree<'_> {
     // What is found of the tree.
-    #[tactic(auto, using(crate::proofs::ChildLaws::whole_starts))]
+    #[tactic(auto, using(crate::proofs::ChildLaws::whole_front))]
     pub fn fold<F: Fold>(self, by: &F) -> F::Found
         ensures { F.gives by.now result (tree_of self.entry) }
     {
         let Found {
             words: _words,
             found,
-        } = fold_at(by, self.words);
+        } = fold_at(by, Walk::over(self));
         found
     }
 }

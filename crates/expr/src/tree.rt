@@ -1,6 +1,6 @@
 // A tree, by its words.
 ghost use Rattle.std.specs.Prelude.{◌≡◌, ◌≤◌, length};
-ghost use Rattle.expr.specs.Front.{Whole};
+ghost use Rattle.expr.specs.Front.{Leads, Whole};
 
 use crate::kind::{Binary, Leaf, Unary};
 use crate::refusal::Refusal;
@@ -11,6 +11,14 @@ use crate::{Arity, arity_of, check_tree, kind, same_words, span};
 pub struct Tree<'a> {
     pub words: &'a [u64],
     pub ghost whole: { Whole words.now },
+    pub ghost short: { length words.now ≤ 1024 },
+}
+
+// The words that a walk has before it: they begin with those of a tree.
+#[derive(Clone, Copy)]
+pub struct Walk<'a> {
+    pub words: &'a [u64],
+    pub ghost leads: { Leads words.now },
     pub ghost short: { length words.now ≤ 1024 },
 }
 
@@ -147,5 +155,30 @@ impl<'a> Tree<'a> {
         ensures { result ≡ same_words (encode (tree_of self.entry)) (encode (tree_of other.entry)) }
     {
         same_words(self.words, other.words)
+    }
+}
+
+impl<'a> Walk<'a> {
+    ghost use Rattle.expr.specs.Answers.{children_of};
+    ghost use Rattle.expr.specs.Outcome.{accepted};
+    ghost use Rattle.expr.specs.Parse.{arity_of};
+    ghost use Rattle.std.specs.Prelude.{get_or};
+
+    // Over the whole tree.
+    #[tactic(auto, using(crate::proofs::ChildLaws::whole_leads))]
+    pub fn over(tree: Tree<'a>) -> Walk<'a>
+        ensures { result.words.now ≡ tree.entry.words.now }
+    {
+        Walk { words: tree.words }
+    }
+
+    // The number of children of the tree's root.
+    #[tactic(auto, using(crate::specs::PartLaws::lead_starts, crate::specs::FrontLaws::has_kind, crate::specs::FrontLaws::has_arity, crate::specs::FrontLaws::known_arity))]
+    pub fn arity(self) -> Arity
+        ensures { accepted (children_of result) ≡ arity_of (get_or self.entry.words.now 0 0) }
+    {
+        let words = self.words;
+        // a tree's kind is not refused
+        arity_of(words[0]).unwrap()
     }
 }
