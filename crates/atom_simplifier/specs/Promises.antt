@@ -5,11 +5,15 @@ use Rattle.std.specs.declared.ops.ControlFlow.{ControlFlow}
 use Rattle.std.specs.declared.ops.ControlFlow.TheVariants.{Continue, Break}
 use Rattle.std.proofs.Math.Option.{Option, none, some}
 use Rattle.expr.specs.declared.kind.Binary.{Binary}
+use Rattle.expr.specs.declared.kind.Binary.TheVariants.{And, Or}
 use Rattle.expr.specs.Expr.{Expr, binary, binary_number, encode}
 use Rattle.expr.specs.Parse.{operands_ok}
 use Rattle.expr.specs.Parts.{tail, part, Laid}
 use Rattle.expr.specs.Front.{Front, Starts, Whole, tree_at}
 use Rattle.expr.specs.Optional.{◌equals_some◌}
+use Rattle.expr.specs.declared.tree.Tree.{Tree}
+use Rattle.expr.specs.Trees.{tree_of}
+use Rattle.arith.specs.Bv.{ones}
 use Rattle.rewriting.specs.AtomSimplifier as def
 use Rattle.rewriting.specs.AtomSimplifier.{constant, not, is_not, constant_val, unless_same, Bitwise, and, or, xor, kind_of, arms, first_rewrite}
 use Rattle.rewriting.specs.Measures.{and_ors_of, D}
@@ -21,16 +25,13 @@ use Rattle.atom_simplifier.specs.declared.fold.Arm.{Arm}
 use Rattle.atom_simplifier.specs.declared.fold.Arm.TheVariants as arm
 use Rattle.atom_simplifier.specs.declared.local.Decision.{Decision}
 use Rattle.atom_simplifier.specs.declared.local.Decision.TheVariants.{Part, Constant, Join, DeMorgan}
+use Rattle.atom_simplifier.specs.declared.operands.Placed.{Placed}
 use Rattle.atom_simplifier.specs.declared.search.Site.{Site}
 use Rattle.atom_simplifier.specs.declared.chain.Pairs.{Pairs}
 
 -- at width w the tree is the Constant c
 unfoldable pub is_constant : ℕ → Expr → ℕ → Bool
 is_constant w t c = constant_val w t equals_some c
-
--- one of the two trees is
-unfoldable pub either_constant : ℕ → Expr → Expr → ℕ → Bool
-either_constant w t u c = (constant_val w t equals_some c) || (constant_val w u equals_some c)
 
 -- the folded kind, as the definitions name it
 abbrev pub bitwise_of : fold.Bitwise → Bitwise
@@ -47,12 +48,29 @@ abbrev pub KindIs : ℕ → answered.Option fold.Bitwise → Type 0
 KindIs k None = (o : fold.Bitwise) → k ≡ number_of o → ⊥
 KindIs k (Some o) = k ≡ number_of o
 
--- the number is that of And or Or
-pub record IsDual (k : ℕ) : Type 0 where
-  pub kind : Binary
-  pub other : Binary
-  pub dual : Dual kind other
-  pub number : k ≡ binary_number kind
+-- the kind that a node of the kind absorbs
+abbrev pub dual_of : Bitwise → Option Binary
+dual_of and = some Or
+dual_of or = some And
+dual_of xor = none
+
+-- the constant that leaves the other operand
+abbrev pub identity_of : ℕ → Bitwise → ℕ
+identity_of w and = ones w
+identity_of w or = 0
+identity_of w xor = 0
+
+-- what an operand and its complement come to
+abbrev pub complements_of : ℕ → Bitwise → ℕ
+complements_of w and = 0
+complements_of w or = ones w
+complements_of w xor = ones w
+
+-- the constant that the node comes to with any other operand
+abbrev pub absorbing_of : ℕ → Bitwise → Option ℕ
+absorbing_of w and = some 0
+absorbing_of w or = some (ones w)
+absorbing_of w xor = none
 
 -- what an arm makes of the operands t and u
 abbrev pub arm_tree : Bitwise → Expr → Expr → Arm → Expr
@@ -121,6 +139,23 @@ pub record Decides (ws : List ℕ) (d : answered.Option Decision) (o : Option Ex
 pub record DecidesAt (k from : ℕ) (part : List ℕ) (d : answered.Option Decision) (o : Option Expr) : Type 0 where
   pub in_node : (ws : List ℕ) (half : ℕ) → from ≡ 2 * half → Within ws from part → get_or ws 0 0 ≡ k → Decides ws d o
 
+-- ---- parts by their places
+
+-- that the part takes the node's place
+abbrev pub part_of : Placed → Decision
+part_of p = Part p.at (length p.tree.words.now)
+
+abbrev pub placed_trees : answered.Option (Placed × Placed) → Option (Expr × Expr)
+placed_trees None = none
+placed_trees (Some p) = some (tree_of p.0.tree, tree_of p.1.tree)
+
+-- the operands stand in the part, one behind the other
+abbrev pub AreBelow : Placed → answered.Option (Placed × Placed) → Type 0
+AreBelow p None = Unit
+AreBelow p (Some q) =
+    (q.0.at ≡ p.at + 2) × (q.1.at ≡ q.0.at + length q.0.tree.words.now)
+    × (p.tree.words.now ≡ get_or p.tree.words.now 0 0 ∷ 0 ∷ (q.0.tree.words.now ++ q.1.tree.words.now))
+
 -- ---- writing
 
 -- the words that are written for a part's words: the same, at every width
@@ -146,40 +181,24 @@ pub record Replaceable (ws : List ℕ) (len : ℕ) (d : Decision) : Type 0 where
 
 -- ---- the search
 
--- the answer for a root of n words whose children have no site
-abbrev pub at_root : ℕ → answered.Option Decision → ControlFlow Site ℕ
-at_root n None = Continue n
-at_root n (Some d) = Break (record { at = 0; words = n; levels = 0; local = d })
+-- the answer for a root whose children have no site
+abbrev pub at_root : Tree → answered.Option Decision → ControlFlow Site ℕ
+at_root root None = Continue (length root.words.now)
+at_root root (Some d) = Break (record { node = root; levels = 0; local = d })
 
--- a site of the child whose words begin at `from`, by its place and level in the parent
-abbrev pub under_parent : ℕ → Site → Site
-under_parent from s = record { at = s.at + from; words = s.words; levels = s.levels + 1; local = s.local }
-
--- the words hold the site's node at its place, and its path was written at the front of the lent bytes
-pub record IsFound (site : def.Site) (ws before after : List ℕ) (s : Site) : Type 0 where
+-- the site was found, and its path was written at the front of the lent bytes
+pub record IsFound (site : def.Site) (before after : List ℕ) (s : Site) : Type 0 where
   pub bytes : Laid before after site.path
   pub levels_is : s.levels ≡ length site.path
-  pub node : List ℕ
-  pub within : Within ws s.at node
-  pub words_is : s.words ≡ length node
-  pub makes : Makes node s.local site.replacement
+  pub makes : Makes s.node.words.now s.local site.replacement
 
--- a site's words, of those of the tree
-abbrev pub site_words : List ℕ → Site → List ℕ
-site_words ws s = part s.at (s.at + s.words) ws
+-- the answer is the site o, or none and the number n of words, with nothing written
+unfoldable pub SearchIs : Option def.Site → ℕ → List ℕ → List ℕ → ControlFlow Site ℕ → Type 0
+SearchIs o n before after (Continue m) = (o ≡ none) × (m ≡ n) × (after ≡ before)
+SearchIs o n before after (Break s) = (site : def.Site) × (o ≡ some site) × IsFound site before after s
 
--- they are all there, and there is room for what the site becomes
-pub record HoldsSite (ws : List ℕ) (s : Site) (room : ℕ) : Type 0 where
-  pub inside : s.at + s.words ≤ length ws
-  pub writable : Writable (site_words ws s) s.local room
-
--- the answer is the site o, whose node stands in the words, or none and the number n of words, with nothing written
-unfoldable pub SearchIs : Option def.Site → List ℕ → ℕ → List ℕ → List ℕ → ControlFlow Site ℕ → Type 0
-SearchIs o ws n before after (Continue m) = (o ≡ none) × (m ≡ n) × (after ≡ before)
-SearchIs o ws n before after (Break s) = (site : def.Site) × (o ≡ some site) × IsFound site ws before after s
-
-pub record Searched (o : Option def.Site) (ws : List ℕ) (n : ℕ) (before after : List ℕ) (r : ControlFlow Site ℕ) : Type 0 where
-  pub is : SearchIs o ws n before after r
+pub record Searched (o : Option def.Site) (n : ℕ) (before after : List ℕ) (r : ControlFlow Site ℕ) : Type 0 where
+  pub is : SearchIs o n before after r
 
 -- ---- the chain
 

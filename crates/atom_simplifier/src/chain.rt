@@ -7,7 +7,7 @@ ghost use Rattle.expr.specs.Outcome.{accepted, mapped};
 ghost use Rattle.expr.specs.Expr.{encode};
 ghost use Rattle.expr.specs.Parse.{arity_of};
 ghost use Rattle.expr.specs.Parts.{tail, part, Laid};
-ghost use Rattle.expr.specs.Front.{Starts, tree_at, left_of};
+ghost use Rattle.expr.specs.Front.{Whole, tree_at, left_of};
 ghost use Rattle.rewriting.specs.AtomSimplifier.{not, local_rewrite};
 ghost use Rattle.rewriting.specs.Measures.{and_or, pairs};
 ghost use Rattle.atom_simplifier.specs.Calls.{chain_admitted};
@@ -23,7 +23,9 @@ use crate::{local, write};
 use expr::fold::Fold;
 use expr::kind::{Binary, Leaf, Unary};
 use expr::refusal::Refusal;
+use expr::tree::{Tree, Walk};
 use expr::{Arity, kind};
+use width::Width;
 
 // The nodes of the end tree, and the number of rewrites.
 #[derive(Clone, Copy, PartialEq, Eq)]
@@ -112,10 +114,21 @@ impl Fold for Counting {
     }
 }
 
+// What a node over two children becomes; the right one is at `right`.
+fn two_rewrite(node: &[u64], right: usize, len: usize, width: Width) -> Option<Decision>
+    requires { (len ≤ length node.now) × (len ≤ 1024) × Whole (part 0 len node.now) × (arity_of (get_or node.now 0 0) ≡ accepted 2) × (right ≡ 2 + length (encode (left_of (tree_at (part 0 len node.now))))) }
+    ensures { Decides (part 0 len node.now) result (local_rewrite width.bits (tree_at (part 0 len node.now))) }
+{
+    let node = Tree {
+        words: &node[..len],
+    };
+    local::binary_rewrite(Operands { node, right }, width)
+}
+
 // A node over two children without a site, with what was decided about it. A fold may make a node whose root has a site again.
-fn rewrite_two(node: &mut [u64], decided: Option<Decision>, len: usize, width: u32) -> Settled
-    requires { Ready width node.old len × (arity_of (get_or node.old 0 0) ≡ accepted 2) × Decides (part 0 len node.old) decided (local_rewrite width (tree_at (part 0 len node.old))) × (width ≤ 64) }
-    ensures { EndsAt width (tree_at node.old) len node.old node.new result.len result.count }
+fn rewrite_two(node: &mut [u64], decided: Option<Decision>, len: usize, width: Width) -> Settled
+    requires { Ready width.bits node.old len × (arity_of (get_or node.old 0 0) ≡ accepted 2) × Decides (part 0 len node.old) decided (local_rewrite width.bits (tree_at (part 0 len node.old))) }
+    ensures { EndsAt width.bits (tree_at node.old) len node.old node.new result.len result.count }
 {
     let Some(rewrite) = decided else {
         return Settled { len, count: 0 };
@@ -123,11 +136,7 @@ fn rewrite_two(node: &mut [u64], decided: Option<Decision>, len: usize, width: u
     match rewrite {
         Decision::Join(_, _, _) => {
             let all = write::replace(node, len, rewrite);
-            let operands = Operands {
-                node: &node[0..all],
-                right: all - 2,
-            };
-            let next = local::binary_rewrite(operands, width);
+            let next = two_rewrite(node, all - 2, all, width);
             let again = rewrite_two(node, next, all, width);
             Settled {
                 len: again.len,
@@ -142,23 +151,19 @@ fn rewrite_two(node: &mut [u64], decided: Option<Decision>, len: usize, width: u
 }
 
 // A node over two children without a site; the right one is at `right`.
-fn settle_two(node: &mut [u64], right: usize, len: usize, width: u32) -> Settled
-    requires { Ready width node.old len × (arity_of (get_or node.old 0 0) ≡ accepted 2) × (right ≡ 2 + length (encode (left_of (tree_at node.old)))) × (width ≤ 64) }
-    ensures { EndsAt width (tree_at node.old) len node.old node.new result.len result.count }
+fn settle_two(node: &mut [u64], right: usize, len: usize, width: Width) -> Settled
+    requires { Ready width.bits node.old len × (arity_of (get_or node.old 0 0) ≡ accepted 2) × (right ≡ 2 + length (encode (left_of (tree_at node.old)))) }
+    ensures { EndsAt width.bits (tree_at node.old) len node.old node.new result.len result.count }
 {
-    let operands = Operands {
-        node: &node[0..len],
-        right,
-    };
-    let decided = local::binary_rewrite(operands, width);
+    let decided = two_rewrite(node, right, len, width);
     rewrite_two(node, decided, len, width)
 }
 
 // A node whose left child has no site and ends at `at`, and whose right child is a Not over the operand at `right`.
 #[cycle(rewrite_one_settle_de_morgan_settle_one_settle_operand_settle_second)]
-fn settle_second(node: &mut [u64], at: usize, right: usize, len: usize, width: u32) -> Settled
-    requires { HalfTurned width node.old at right len × (width ≤ 64) }
-    ensures { HalfEnds width node.old at right len node.new result.len result.count }
+fn settle_second(node: &mut [u64], at: usize, right: usize, len: usize, width: Width) -> Settled
+    requires { HalfTurned width.bits node.old at right len }
+    ensures { HalfEnds width.bits node.old at right len node.new result.len result.count }
 {
     let second = settle_operand(&mut node[at..], right - at, len - right, width);
     let top = settle_two(node, at, at + second.len, width);
@@ -179,9 +184,9 @@ fn turn_kind(node: &mut [u64])
 // De Morgan's law for a Not over an And or Or; the right operand is at `right`. Either operand gets its Not, the left one first, and then the
 // node is looked at.
 #[cycle(rewrite_one_settle_de_morgan_settle_one_settle_operand_settle_second)]
-fn settle_de_morgan(node: &mut [u64], right: usize, len: usize, width: u32) -> Settled
-    requires { Turnable width node.old right len × (width ≤ 64) }
-    ensures { EndsAt width (tree_at node.old) len node.old node.new result.len result.count }
+fn settle_de_morgan(node: &mut [u64], right: usize, len: usize, width: Width) -> Settled
+    requires { Turnable width.bits node.old right len }
+    ensures { EndsAt width.bits (tree_at node.old) len node.old node.new result.len result.count }
 {
     turn_kind(node);
     let first = settle_operand(&mut node[2..], 2, right - 4, width);
@@ -194,9 +199,9 @@ fn settle_de_morgan(node: &mut [u64], right: usize, len: usize, width: u32) -> S
 
 // A node over one child without a site, with what was decided about it.
 #[cycle(rewrite_one_settle_de_morgan_settle_one_settle_operand_settle_second)]
-fn rewrite_one(node: &mut [u64], decided: Option<Decision>, len: usize, width: u32) -> Settled
-    requires { Ready width node.old len × (arity_of (get_or node.old 0 0) ≡ accepted 1) × Decides (part 0 len node.old) decided (local_rewrite width (tree_at (part 0 len node.old))) × (width ≤ 64) }
-    ensures { EndsAt width (tree_at node.old) len node.old node.new result.len result.count }
+fn rewrite_one(node: &mut [u64], decided: Option<Decision>, len: usize, width: Width) -> Settled
+    requires { Ready width.bits node.old len × (arity_of (get_or node.old 0 0) ≡ accepted 1) × Decides (part 0 len node.old) decided (local_rewrite width.bits (tree_at (part 0 len node.old))) }
+    ensures { EndsAt width.bits (tree_at node.old) len node.old node.new result.len result.count }
 {
     let Some(rewrite) = decided else {
         return Settled { len, count: 0 };
@@ -212,20 +217,23 @@ fn rewrite_one(node: &mut [u64], decided: Option<Decision>, len: usize, width: u
 
 // A node over one child without a site.
 #[cycle(rewrite_one_settle_de_morgan_settle_one_settle_operand_settle_second)]
-fn settle_one(node: &mut [u64], len: usize, width: u32) -> Settled
-    requires { Ready width node.old len × (arity_of (get_or node.old 0 0) ≡ accepted 1) × (width ≤ 64) }
-    ensures { EndsAt width (tree_at node.old) len node.old node.new result.len result.count }
+fn settle_one(node: &mut [u64], len: usize, width: Width) -> Settled
+    requires { Ready width.bits node.old len × (arity_of (get_or node.old 0 0) ≡ accepted 1) }
+    ensures { EndsAt width.bits (tree_at node.old) len node.old node.new result.len result.count }
 {
-    let decided = local::unary_rewrite(&node[0..len]);
+    let tree = Tree {
+        words: &node[..len],
+    };
+    let decided = local::root_rewrite(tree, width);
     rewrite_one(node, decided, len, width)
 }
 
 // A Not over the operand of `len` words at `from`, which has no site; what it comes to is put at the front. Where the operand is a Not, the two
 // are taken away together, so that no word more is needed.
 #[cycle(rewrite_one_settle_de_morgan_settle_one_settle_operand_settle_second)]
-fn settle_operand(work: &mut [u64], from: usize, len: usize, width: u32) -> Settled
-    requires { Apart width work.old from len × (width ≤ 64) }
-    ensures { EndsAt width (not (tree_at (tail from work.old))) (from + len) work.old work.new result.len result.count }
+fn settle_operand(work: &mut [u64], from: usize, len: usize, width: Width) -> Settled
+    requires { Apart width.bits work.old from len }
+    ensures { EndsAt width.bits (not (tree_at (tail from work.old))) (from + len) work.old work.new result.len result.count }
 {
     if work[from] == kind::NOT {
         write::move_down(work, from + 2, len - 2);
@@ -242,20 +250,21 @@ fn settle_operand(work: &mut [u64], from: usize, len: usize, width: u32) -> Sett
 }
 
 // The only place where a node of the input is read into the work: its two words as they stand, whatever the width.
-fn load(ws: &[u64], width: u32, work: &mut [u64])
+fn load(ws: &[u64], width: Width, work: &mut [u64])
     requires { (2 ≤ length ws.now) × (2 ≤ length work.old) }
-    ensures { Laid work.old work.new (loaded width (get_or ws.now 0 0) (get_or ws.now 1 0)) }
+    ensures { Laid work.old work.new (loaded width.bits (get_or ws.now 0 0) (get_or ws.now 1 0)) }
 {
     write::put_node(ws[0], ws[1], work);
 }
 
 // A node over one child, whose own words stand in the work.
 #[cycle(build_build_one_build_right_build_two)]
-fn build_one(ws: &[u64], width: u32, work: &mut [u64]) -> Built
-    requires { Starts ws.now × (arity_of (get_or ws.now 0 0) ≡ accepted 1) × (length ws.now ≤ 1024) × (width ≤ 64) × Loaded width ws.now work.old × (length (encode (tree_at ws.now)) ≤ length work.old) }
-    ensures { IsBuilt width ws.now work.old work.new result.read result.len result.count }
+fn build_one(walk: Walk<'_>, width: Width, work: &mut [u64]) -> Built
+    requires { (arity_of (get_or walk.words.now 0 0) ≡ accepted 1) × Loaded width.bits walk.words.now work.old × (length (encode (tree_at walk.words.now)) ≤ length work.old) }
+    ensures { IsBuilt width.bits walk.entry.words.now work.old work.new result.read result.len result.count }
 {
-    let child = build(&ws[2..], width, &mut work[2..]);
+    let ws = walk.words;
+    let child = build(Walk { words: &ws[2..] }, width, &mut work[2..]);
     let top = settle_one(work, 2 + child.len, width);
     Built {
         read: 2 + child.read,
@@ -266,11 +275,11 @@ fn build_one(ws: &[u64], width: u32, work: &mut [u64]) -> Built
 
 // The right child of a node over two, and then the node: its own words and its left child stand in the work, up to `at`.
 #[cycle(build_build_one_build_right_build_two)]
-fn build_right(ws: &[u64], width: u32, work: &mut [u64], at: usize) -> Built
-    requires { Starts ws.now × (length ws.now ≤ 1024) × (width ≤ 64) × HasLeft width work.old at × (at + length (encode (tree_at ws.now)) ≤ length work.old) × (at + length (encode (tree_at ws.now)) ≤ 1024) }
-    ensures { RightBuilt width ws.now at work.old work.new result.read result.len result.count }
+fn build_right(walk: Walk<'_>, width: Width, work: &mut [u64], at: usize) -> Built
+    requires { HasLeft width.bits work.old at × (at + length (encode (tree_at walk.words.now)) ≤ length work.old) × (at + length (encode (tree_at walk.words.now)) ≤ 1024) }
+    ensures { RightBuilt width.bits walk.entry.words.now at work.old work.new result.read result.len result.count }
 {
-    let right = build(ws, width, &mut work[at..]);
+    let right = build(walk, width, &mut work[at..]);
     let top = settle_two(work, at, at + right.len, width);
     Built {
         read: right.read,
@@ -281,13 +290,14 @@ fn build_right(ws: &[u64], width: u32, work: &mut [u64], at: usize) -> Built
 
 // A node over two children, whose own words stand in the work.
 #[cycle(build_build_one_build_right_build_two)]
-fn build_two(ws: &[u64], width: u32, work: &mut [u64]) -> Built
-    requires { Starts ws.now × (arity_of (get_or ws.now 0 0) ≡ accepted 2) × (length ws.now ≤ 1024) × (width ≤ 64) × Loaded width ws.now work.old × (length (encode (tree_at ws.now)) ≤ length work.old) }
-    ensures { IsBuilt width ws.now work.old work.new result.read result.len result.count }
+fn build_two(walk: Walk<'_>, width: Width, work: &mut [u64]) -> Built
+    requires { (arity_of (get_or walk.words.now 0 0) ≡ accepted 2) × Loaded width.bits walk.words.now work.old × (length (encode (tree_at walk.words.now)) ≤ length work.old) }
+    ensures { IsBuilt width.bits walk.entry.words.now work.old work.new result.read result.len result.count }
 {
-    let left = build(&ws[2..], width, &mut work[2..]);
+    let ws = walk.words;
+    let left = build(Walk { words: &ws[2..] }, width, &mut work[2..]);
     let from = 2 + left.read;
-    let right = build_right(&ws[from..], width, work, 2 + left.len);
+    let right = build_right(Walk { words: &ws[from..] }, width, work, 2 + left.len);
     Built {
         read: from + right.read,
         len: right.len,
@@ -297,19 +307,19 @@ fn build_two(ws: &[u64], width: u32, work: &mut [u64]) -> Built
 
 // The end tree of the tree at the front of the words, at the front of the work.
 #[cycle(build_build_one_build_right_build_two)]
-fn build(ws: &[u64], width: u32, work: &mut [u64]) -> Built
-    requires { Starts ws.now × (length ws.now ≤ 1024) × (width ≤ 64) × (length (encode (tree_at ws.now)) ≤ length work.old) }
-    ensures { IsBuilt width ws.now work.old work.new result.read result.len result.count }
+fn build(walk: Walk<'_>, width: Width, work: &mut [u64]) -> Built
+    requires { (length (encode (tree_at walk.words.now)) ≤ length work.old) }
+    ensures { IsBuilt width.bits walk.entry.words.now work.old work.new result.read result.len result.count }
 {
-    load(ws, width, work);
-    match expr::arity_of(ws[0]).unwrap() {
+    load(walk.words, width, work);
+    match walk.arity() {
         Arity::Zero => Built {
             read: 2,
             len: 2,
             count: 0,
         },
-        Arity::One => build_one(ws, width, work),
-        Arity::Two => build_two(ws, width, work),
+        Arity::One => build_one(walk, width, work),
+        Arity::Two => build_two(walk, width, work),
     }
 }
 
@@ -322,12 +332,10 @@ pub fn chain(
 ) -> Result<ChainEnd, Refusal>
     ensures { ChainGives (chain_admitted words.now width var_widths.now (length work.old)) width var_widths.now work.old work.new (mapped end_numbers (outcome result)) }
 {
-    let tree = value::one_width(words, width, var_widths)?;
+    let (tree, width) = value::one_width(words, width, var_widths)?;
     let found = tree.fold(&Counting);
-    if work.len() < 2 * (tree.nodes() + found.pairs) {
-        return Err(Refusal::OutputTooSmall);
-    }
-    let built = build(words, width, work);
+    let tree = tree.with_room(work.len(), found.pairs)?;
+    let built = build(Walk::over(tree), width, work);
     let len = built.len;
     work[len..].fill(0);
     Ok(ChainEnd {

@@ -1,20 +1,20 @@
-// `try_fold_binary` and its helpers. An operand is lent as exactly its words, and a decision names a part of the node's words by its place.
-ghost use Rattle.std.specs.Prelude.{◌≡◌, ◌+◌, ◌≤◌, length, get_or, Some};
+// `try_fold_binary` and its helpers.
+ghost use Rattle.std.specs.Prelude.{◌≡◌, Some, get_or};
 ghost use Rattle.std.proofs.Math.Option.{some};
-ghost use Rattle.expr.specs.Outcome.{accepted};
-ghost use Rattle.expr.specs.Expr.{encode};
-ghost use Rattle.expr.specs.Parse.{arity_of};
-ghost use Rattle.expr.specs.Front.{Whole, tree_at, left_of, right_of};
 ghost use Rattle.expr.specs.Optional.{◌and_then◌, option_of};
-ghost use Rattle.rewriting.specs.AtomSimplifier.{constant, constant_val, same_part, is_not_of, are_complements, contains_operand, and, or, xor, kind_of, constant_arms, arms, folded_word, reassociate_constant, try_fold_binary, fold_rewrite};
-ghost use Rattle.atom_simplifier.specs.Promises.{is_constant, either_constant, arm_tree, bitwise_of, number_of, KindIs, arm_rewrite, Decides, DecidesAt};
+ghost use Rattle.expr.specs.Trees.{tree_of};
+ghost use Rattle.rewriting.specs.AtomSimplifier.{constant, constant_val, same_part, is_not_of, are_complements, contains_operand, kind_of, constant_arms, arms, folded_word, reassociate_constant, try_fold_binary};
+ghost use Rattle.atom_simplifier.specs.Promises.{is_constant, arm_tree, bitwise_of, number_of, KindIs, identity_of, absorbing_of, complements_of, dual_of, DecidesAt};
 
 use crate::local::Decision;
-use crate::operands::Operands;
+use crate::operands::{Operands, Placed};
 use expr::kind;
+use expr::kind::{Binary, Unary};
+use expr::tree::Tree;
+use width::Width;
 
 // The kinds that are folded.
-#[derive(Clone, Copy)]
+#[derive(Clone, Copy, PartialEq, Eq)]
 pub(crate) enum Bitwise {
     And,
     Or,
@@ -34,96 +34,75 @@ impl Bitwise {
         }
     }
 
-    fn kind(self) -> u64
-        ensures { result ≡ number_of self }
+    // Or for And, And for Or: a node of that kind absorbs.
+    fn dual(self) -> Option<Binary>
+        ensures { option_of result ≡ dual_of (bitwise_of self) }
     {
         match self {
-            Bitwise::And => kind::AND,
-            Bitwise::Or => kind::OR,
-            Bitwise::Xor => kind::XOR,
+            Bitwise::And => Some(Binary::Or),
+            Bitwise::Or => Some(Binary::And),
+            Bitwise::Xor => None,
+        }
+    }
+}
+
+impl From<Bitwise> for Binary {
+    ghost from_gives = { λ op kind. kind ≡ kind_of (bitwise_of op) };
+
+    fn from(op: Bitwise) -> Binary {
+        match op {
+            Bitwise::And => Binary::And,
+            Bitwise::Or => Binary::Or,
+            Bitwise::Xor => Binary::Xor,
         }
     }
 }
 
 // The only place where a constant is read: its word as it stands, whatever the width.
-fn constant_val(part: &[u64], width: u32) -> Option<u64>
-    requires { Whole part.now }
-    ensures { option_of result ≡ constant_val width (tree_at part.now) }
+fn constant_val(tree: Tree<'_>, width: Width) -> Option<u64>
+    ensures { option_of result ≡ constant_val width.bits (tree_of tree.entry) }
 {
-    if part[0] != kind::CONSTANT {
-        return None;
-    }
-    Some(part[1])
+    tree.constant()
 }
 
 // The only place where parts are compared: word by word, whatever the width.
-pub(crate) fn same_part(a: &[u64], b: &[u64], width: u32) -> bool
-    requires { Whole a.now × Whole b.now }
-    ensures { result ≡ same_part width (tree_at a.now) (tree_at b.now) }
+pub(crate) fn same_part(a: Tree<'_>, b: Tree<'_>, width: Width) -> bool
+    ensures { result ≡ same_part width.bits (tree_of a.entry) (tree_of b.entry) }
 {
-    expr::same_words(a, b)
+    a.expr_eq(b)
 }
 
-// Whether the part is the Constant c.
-pub(crate) fn is_constant(part: &[u64], c: u64, width: u32) -> bool
-    requires { Whole part.now }
-    ensures { result ≡ is_constant width (tree_at part.now) c }
+// Whether the tree is the Constant c.
+pub(crate) fn is_constant(tree: Tree<'_>, c: u64, width: Width) -> bool
+    ensures { result ≡ is_constant width.bits (tree_of tree.entry) c }
 {
-    constant_val(part, width).is_some_and(|d| d == c)
+    constant_val(tree, width) == Some(c)
 }
 
-// Whether one of the two parts is the Constant c.
-fn either_constant(a: &[u64], b: &[u64], c: u64, width: u32) -> bool
-    requires { Whole a.now × Whole b.now }
-    ensures { result ≡ either_constant width (tree_at a.now) (tree_at b.now) c }
+// Trees are compared as the width has it; the candidates' `is_not_of` compares them raw.
+fn is_not_of(outer: Tree<'_>, inner: Tree<'_>, width: Width) -> bool
+    ensures { result ≡ is_not_of width.bits (tree_of outer.entry) (tree_of inner.entry) }
 {
-    if is_constant(a, c, width) {
-        return true;
+    match outer.operand(Unary::Not) {
+        Some(operand) => same_part(operand, inner, width),
+        None => false,
     }
-    is_constant(b, c, width)
 }
 
-fn is_not_of(outer: &[u64], inner: &[u64], width: u32) -> bool
-    requires { Whole outer.now × Whole inner.now }
-    ensures { result ≡ is_not_of width (tree_at outer.now) (tree_at inner.now) }
+fn are_complements(a: Tree<'_>, b: Tree<'_>, width: Width) -> bool
+    ensures { result ≡ are_complements width.bits (tree_of a.entry) (tree_of b.entry) }
 {
-    if outer[0] != kind::NOT {
-        return false;
-    }
-    same_part(&outer[2..], inner, width)
-}
-
-fn are_complements(a: &[u64], b: &[u64], width: u32) -> bool
-    requires { Whole a.now × Whole b.now }
-    ensures { result ≡ are_complements width (tree_at a.now) (tree_at b.now) }
-{
-    if is_not_of(a, b, width) {
-        return true;
-    }
-    is_not_of(b, a, width)
-}
-
-// Where the right operand's words begin in a node's own words.
-pub(crate) fn right_at(node: &[u64]) -> usize
-    requires { Whole node.now × (arity_of (get_or node.now 0 0) ≡ accepted 2) × (length node.now ≤ 1024) }
-    ensures { result ≡ 2 + length (encode (left_of (tree_at node.now))) }
-{
-    2 + expr::span(&node[2..]).unwrap()
+    is_not_of(a, b, width) || is_not_of(b, a, width)
 }
 
 // Whether `whole` is a node of the kind `op` with `part` as one of its two operands.
-fn contains_operand(whole: &[u64], op: Bitwise, part: &[u64], width: u32) -> bool
-    requires { Whole whole.now × Whole part.now × (length whole.now ≤ 1024) }
-    ensures { result ≡ contains_operand width (tree_at whole.now) (kind_of (bitwise_of op)) (tree_at part.now) }
+fn contains_operand(whole: Tree<'_>, op: Binary, part: Tree<'_>, width: Width) -> bool
+    ensures { result ≡ contains_operand width.bits (tree_of whole.entry) op (tree_of part.entry) }
 {
-    if whole[0] != op.kind() {
-        return false;
+    match whole.operands(op) {
+        Some((l, r)) => same_part(l, part, width) || same_part(r, part, width),
+        None => false,
     }
-    let right = right_at(whole);
-    if same_part(&whole[2..right], part, width) {
-        return true;
-    }
-    same_part(&whole[right..], part, width)
 }
 
 // What the arms of the fold make of two operands: one of them, a constant, or the node itself, which is no lack of a tree: `constant_beside`
@@ -136,214 +115,180 @@ pub(crate) enum Arm {
     Node,
 }
 
-fn and_constants(lhs: &[u64], rhs: &[u64], width: u32) -> Arm
-    requires { Whole lhs.now × Whole rhs.now × (width ≤ 64) }
-    ensures { arm_tree and (tree_at lhs.now) (tree_at rhs.now) result ≡ constant_arms width and (tree_at lhs.now) (tree_at rhs.now) }
-{
-    let ones = arith::bitmask(width);
-    if either_constant(rhs, lhs, 0, width) {
-        return Arm::Constant(0);
-    }
-    if is_constant(rhs, ones, width) {
-        return Arm::Left;
-    }
-    if is_constant(lhs, ones, width) {
-        return Arm::Right;
-    }
-    Arm::Node
+// A fold: its kind and the width.
+#[derive(Clone, Copy)]
+pub(crate) struct BinaryFold {
+    pub(crate) op: Bitwise,
+    pub(crate) width: Width,
 }
 
-fn or_constants(lhs: &[u64], rhs: &[u64], width: u32) -> Arm
-    requires { Whole lhs.now × Whole rhs.now × (width ≤ 64) }
-    ensures { arm_tree or (tree_at lhs.now) (tree_at rhs.now) result ≡ constant_arms width or (tree_at lhs.now) (tree_at rhs.now) }
-{
-    let ones = arith::bitmask(width);
-    if is_constant(rhs, 0, width) {
-        return Arm::Left;
+impl BinaryFold {
+    // The constant that leaves the other operand: all ones for And, else 0.
+    fn identity(self) -> u64
+        ensures { result ≡ identity_of self.width.bits (bitwise_of self.op) }
+    {
+        match self.op {
+            Bitwise::And => arith::bitmask(self.width.bits),
+            Bitwise::Or | Bitwise::Xor => 0,
+        }
     }
-    if is_constant(lhs, 0, width) {
-        return Arm::Right;
-    }
-    if either_constant(rhs, lhs, ones, width) {
-        return Arm::Constant(ones);
-    }
-    Arm::Node
-}
 
-fn xor_constants(lhs: &[u64], rhs: &[u64], width: u32) -> Arm
-    requires { Whole lhs.now × Whole rhs.now }
-    ensures { arm_tree xor (tree_at lhs.now) (tree_at rhs.now) result ≡ constant_arms width xor (tree_at lhs.now) (tree_at rhs.now) }
-{
-    if is_constant(rhs, 0, width) {
-        return Arm::Left;
+    // What two operands come to of which one is Not of the other: 0 for And, else all ones.
+    fn complements(self) -> u64
+        ensures { result ≡ complements_of self.width.bits (bitwise_of self.op) }
+    {
+        match self.op {
+            Bitwise::And => 0,
+            Bitwise::Or | Bitwise::Xor => arith::bitmask(self.width.bits),
+        }
     }
-    if is_constant(lhs, 0, width) {
-        return Arm::Right;
-    }
-    Arm::Node
-}
 
-fn and_arms(lhs: &[u64], rhs: &[u64], width: u32) -> Arm
-    requires { Whole lhs.now × Whole rhs.now × (length lhs.now ≤ 1024) × (length rhs.now ≤ 1024) × (width ≤ 64) }
-    ensures { arm_tree and (tree_at lhs.now) (tree_at rhs.now) result ≡ arms width and (tree_at lhs.now) (tree_at rhs.now) }
-{
-    if are_complements(lhs, rhs, width) {
-        return Arm::Constant(0);
+    // The constant that the node comes to whatever the other operand is; Xor has none.
+    fn absorbing(self) -> Option<u64>
+        ensures { option_of result ≡ absorbing_of self.width.bits (bitwise_of self.op) }
+    {
+        match self.op {
+            Bitwise::And | Bitwise::Or => Some(self.complements()),
+            Bitwise::Xor => None,
+        }
     }
-    if contains_operand(rhs, Bitwise::Or, lhs, width) {
-        return Arm::Left;
-    }
-    if contains_operand(lhs, Bitwise::Or, rhs, width) {
-        return Arm::Right;
-    }
-    and_constants(lhs, rhs, width)
-}
 
-fn or_arms(lhs: &[u64], rhs: &[u64], width: u32) -> Arm
-    requires { Whole lhs.now × Whole rhs.now × (length lhs.now ≤ 1024) × (length rhs.now ≤ 1024) × (width ≤ 64) }
-    ensures { arm_tree or (tree_at lhs.now) (tree_at rhs.now) result ≡ arms width or (tree_at lhs.now) (tree_at rhs.now) }
-{
-    if are_complements(lhs, rhs, width) {
-        return Arm::Constant(arith::bitmask(width));
+    fn constant_arms(self, lhs: Tree<'_>, rhs: Tree<'_>) -> Arm
+        ensures { arm_tree (bitwise_of self.op) (tree_of lhs.entry) (tree_of rhs.entry) result ≡ constant_arms self.width.bits (bitwise_of self.op) (tree_of lhs.entry) (tree_of rhs.entry) }
+    {
+        let identity = self.identity();
+        if is_constant(rhs, identity, self.width) {
+            return Arm::Left;
+        }
+        if is_constant(lhs, identity, self.width) {
+            return Arm::Right;
+        }
+        if let Some(c) = self.absorbing() {
+            if is_constant(rhs, c, self.width) || is_constant(lhs, c, self.width) {
+                return Arm::Constant(c);
+            }
+        }
+        Arm::Node
     }
-    if contains_operand(rhs, Bitwise::And, lhs, width) {
-        return Arm::Left;
-    }
-    if contains_operand(lhs, Bitwise::And, rhs, width) {
-        return Arm::Right;
-    }
-    or_constants(lhs, rhs, width)
-}
 
-fn xor_arms(lhs: &[u64], rhs: &[u64], width: u32) -> Arm
-    requires { Whole lhs.now × Whole rhs.now × (width ≤ 64) }
-    ensures { arm_tree xor (tree_at lhs.now) (tree_at rhs.now) result ≡ arms width xor (tree_at lhs.now) (tree_at rhs.now) }
-{
-    if are_complements(lhs, rhs, width) {
-        return Arm::Constant(arith::bitmask(width));
+    // Complements, absorption, and the constants 0 and all ones.
+    fn arms(self, lhs: Tree<'_>, rhs: Tree<'_>) -> Arm
+        ensures { arm_tree (bitwise_of self.op) (tree_of lhs.entry) (tree_of rhs.entry) result ≡ arms self.width.bits (bitwise_of self.op) (tree_of lhs.entry) (tree_of rhs.entry) }
+    {
+        if are_complements(lhs, rhs, self.width) {
+            return Arm::Constant(self.complements());
+        }
+        if let Some(dual) = self.op.dual() {
+            if contains_operand(rhs, dual, lhs, self.width) {
+                return Arm::Left;
+            }
+            if contains_operand(lhs, dual, rhs, self.width) {
+                return Arm::Right;
+            }
+        }
+        self.constant_arms(lhs, rhs)
     }
-    xor_constants(lhs, rhs, width)
-}
 
-// Complements, absorption, and the constants 0 and all ones.
-fn fold_arms(op: Bitwise, lhs: &[u64], rhs: &[u64], width: u32) -> Arm
-    requires { Whole lhs.now × Whole rhs.now × (length lhs.now ≤ 1024) × (length rhs.now ≤ 1024) × (width ≤ 64) }
-    ensures { arm_tree (bitwise_of op) (tree_at lhs.now) (tree_at rhs.now) result ≡ arms width (bitwise_of op) (tree_at lhs.now) (tree_at rhs.now) }
-{
-    match op {
-        Bitwise::And => and_arms(lhs, rhs, width),
-        Bitwise::Or => or_arms(lhs, rhs, width),
-        Bitwise::Xor => xor_arms(lhs, rhs, width),
+    // Two constants as one, masked to the width.
+    fn folded_word(self, d: u64, c: u64) -> u64
+        ensures { result ≡ folded_word self.width.bits (bitwise_of self.op) d c }
+    {
+        let word = match self.op {
+            Bitwise::And => d & c,
+            Bitwise::Or => d | c,
+            Bitwise::Xor => d ^ c,
+        };
+        arith::trunc(word, self.width.bits)
     }
-}
 
-// Two constants as one, masked to the width.
-fn folded_word(op: Bitwise, d: u64, c: u64, width: u32) -> u64
-    requires { width ≤ 64 }
-    ensures { result ≡ folded_word width (bitwise_of op) d c }
-{
-    match op {
-        Bitwise::And => arith::trunc(d & c, width),
-        Bitwise::Or => arith::trunc(d | c, width),
-        Bitwise::Xor => arith::trunc(d ^ c, width),
+    // What the arms make of the part and the constant c.
+    fn constant_beside(self, part: Placed<'_>, c: u64) -> Decision
+        ensures { DecidesAt (number_of self.op) part.entry.at part.entry.tree.words.now (Some result) (some (arms self.width.bits (bitwise_of self.op) (tree_of part.entry.tree) (constant c))) }
+    {
+        let words = [kind::CONSTANT, c];
+        match self.arms(part.tree, Tree { words: &words }) {
+            Arm::Left => part.part(),
+            Arm::Right => Decision::Constant(c),
+            Arm::Constant(v) => Decision::Constant(v),
+            Arm::Node => Decision::Join(part.at, part.tree.words.len(), c),
+        }
     }
-}
 
-// What the arms make of the part at `from` and the constant c.
-fn constant_beside(op: Bitwise, part: &[u64], from: usize, c: u64, width: u32) -> Decision
-    requires { Whole part.now × (length part.now ≤ 1024) × (width ≤ 64) }
-    ensures { DecidesAt (number_of op) from part.now (Some result) (some (arms width (bitwise_of op) (tree_at part.now) (constant c))) }
-{
-    let constant = [kind::CONSTANT, c];
-    match fold_arms(op, part, &constant, width) {
-        Arm::Left => Decision::Part(from, part.len()),
-        Arm::Right => Decision::Constant(c),
-        Arm::Constant(v) => Decision::Constant(v),
-        Arm::Node => Decision::Join(from, part.len(), c),
+    // The fold of the part with the constants d and c as one.
+    #[cycle(fold_constants_reassociate_constant)]
+    fn fold_constants(self, part: Placed<'_>, d: u64, c: u64) -> Decision
+        ensures { DecidesAt (number_of self.op) part.entry.at part.entry.tree.words.now (Some result) (some (try_fold_binary self.width.bits (bitwise_of self.op) (tree_of part.entry.tree) (constant (folded_word self.width.bits (bitwise_of self.op) d c)))) }
+    {
+        let folded = self.folded_word(d, c);
+        match self.reassociate_constant(part, folded) {
+            Some(found) => found,
+            None => self.constant_beside(part, folded),
+        }
     }
-}
 
-// The fold of the part at `from` with the constants d and c as one.
-#[cycle(fold_constants_reassociate_constant)]
-fn fold_constants(op: Bitwise, part: &[u64], from: usize, d: u64, c: u64, width: u32) -> Decision
-    requires { Whole part.now × (from + length part.now ≤ 1024) × (width ≤ 64) }
-    ensures { DecidesAt (number_of op) from part.now (Some result) (some (try_fold_binary width (bitwise_of op) (tree_at part.now) (constant (folded_word width (bitwise_of op) d c)))) }
-{
-    let folded = folded_word(op, d, c, width);
-    match reassociate_constant(op, part, from, folded, width) {
-        Some(found) => found,
-        None => constant_beside(op, part, from, folded, width),
+    // `(x op d) op c`, or `(d op x) op c`, as the fold of x and `d op c`; `lhs` is the inner node. The Rust calls `try_fold_binary` again here,
+    // whose right operand is then that constant.
+    #[cycle(fold_constants_reassociate_constant)]
+    fn reassociate_constant(self, lhs: Placed<'_>, rhs_const: u64) -> Option<Decision>
+        ensures { DecidesAt (number_of self.op) lhs.entry.at lhs.entry.tree.words.now result (reassociate_constant self.width.bits (bitwise_of self.op) (tree_of lhs.entry.tree) rhs_const) }
+    {
+        let (l, r) = lhs.operands(self.op.into())?;
+        if let Some(d) = constant_val(r.tree, self.width) {
+            return Some(self.fold_constants(l, d, rhs_const));
+        }
+        let d = constant_val(l.tree, self.width)?;
+        Some(self.fold_constants(r, d, rhs_const))
+    }
+
+    // Reassociation of the operand x with the other operand y, where y is a constant.
+    fn reassociate_beside(self, x: Placed<'_>, y: Tree<'_>) -> Option<Decision>
+        ensures { DecidesAt (number_of self.op) x.entry.at x.entry.tree.words.now result (constant_val self.width.bits (tree_of y.entry) and_then reassociate_constant self.width.bits (bitwise_of self.op) (tree_of x.entry.tree)) }
+    {
+        let c = constant_val(y, self.width)?;
+        self.reassociate_constant(x, c)
     }
 }
 
-// `(x op d) op c`, or `(d op x) op c`, as the fold of x and `d op c`; `lhs` is the inner node, at `from`. The Rust calls `try_fold_binary`
-// again here, whose right operand is then that constant.
-#[cycle(fold_constants_reassociate_constant)]
-fn reassociate_constant(
-    op: Bitwise,
-    lhs: &[u64],
-    from: usize,
-    rhs_const: u64,
-    width: u32,
-) -> Option<Decision>
-    requires { Whole lhs.now × (from + length lhs.now ≤ 1024) × (width ≤ 64) }
-    ensures { DecidesAt (number_of op) from lhs.now result (reassociate_constant width (bitwise_of op) (tree_at lhs.now) rhs_const) }
-{
-    if lhs[0] != op.kind() {
-        return None;
-    }
-    let right = right_at(lhs);
-    let l = &lhs[2..right];
-    let r = &lhs[right..];
-    if let Some(d) = constant_val(r, width) {
-        return Some(fold_constants(op, l, from + 2, d, rhs_const, width));
-    }
-    let d = constant_val(l, width)?;
-    Some(fold_constants(op, r, from + right, d, rhs_const, width))
+// The fold of a node with its operands.
+#[derive(Clone, Copy)]
+pub(crate) struct NodeFold<'a> {
+    pub(crate) by: BinaryFold,
+    pub(crate) operands: Operands<'a>,
+    ghost kind_is: { get_or operands.node.words.now 0 0 ≡ number_of by.op },
 }
 
-// Reassociation of the operand x, at `from`, with the other operand y, where y is a constant.
-fn reassociate_beside(
-    op: Bitwise,
-    x: &[u64],
-    from: usize,
-    y: &[u64],
-    width: u32,
-) -> Option<Decision>
-    requires { Whole x.now × Whole y.now × (from + length x.now ≤ 1024) × (width ≤ 64) }
-    ensures { DecidesAt (number_of op) from x.now result (constant_val width (tree_at y.now) and_then reassociate_constant width (bitwise_of op) (tree_at x.now)) }
-{
-    let c = constant_val(y, width)?;
-    reassociate_constant(op, x, from, c, width)
-}
+impl NodeFold<'_> {
+    ghost use Rattle.expr.specs.Front.{left_of, right_of};
+    ghost use Rattle.rewriting.specs.AtomSimplifier.{fold_rewrite};
+    ghost use Rattle.atom_simplifier.specs.Promises.{arm_rewrite, Decides};
 
-// What the arms make of a node, where it is another tree.
-fn fold_node_arms(op: Bitwise, operands: Operands<'_>, width: u32) -> Option<Decision>
-    requires { (get_or operands.node.now 0 0 ≡ number_of op) × (width ≤ 64) }
-    ensures { Decides operands.entry.node.now result (arm_rewrite width (bitwise_of op) (left_of (tree_at operands.entry.node.now)) (right_of (tree_at operands.entry.node.now))) }
-{
-    let right = operands.right;
-    match fold_arms(op, operands.lhs(), operands.rhs(), width) {
-        Arm::Left => Some(Decision::Part(2, right - 2)),
-        Arm::Right => Some(Decision::Part(right, operands.node.len() - right)),
-        Arm::Constant(c) => Some(Decision::Constant(c)),
-        Arm::Node => None,
+    // What the arms make of the node, where it is another tree.
+    fn arm_rewrite(self) -> Option<Decision>
+        ensures { Decides self.entry.operands.node.words.now result (arm_rewrite self.entry.by.width.bits (bitwise_of self.entry.by.op) (left_of (tree_of self.entry.operands.node)) (right_of (tree_of self.entry.operands.node))) }
+    {
+        let lhs = self.operands.lhs();
+        let rhs = self.operands.rhs();
+        match self.by.arms(lhs.tree, rhs.tree) {
+            Arm::Left => Some(lhs.part()),
+            Arm::Right => Some(rhs.part()),
+            Arm::Constant(c) => Some(Decision::Constant(c)),
+            Arm::Node => None,
+        }
     }
-}
 
-// The fold of a node of the kind `op`, where it gives another tree: reassociation with the right operand's constant, or else with the left one's,
-// or else the arms. Such a tree has fewer nodes (ShapeLaws, `reassociated_less`), so that the two are not compared.
-pub(crate) fn try_fold_binary(op: Bitwise, operands: Operands<'_>, width: u32) -> Option<Decision>
-    requires { (get_or operands.node.now 0 0 ≡ number_of op) × (width ≤ 64) }
-    ensures { Decides operands.entry.node.now result (fold_rewrite width (bitwise_of op) (left_of (tree_at operands.entry.node.now)) (right_of (tree_at operands.entry.node.now))) }
-{
-    let lhs = operands.lhs();
-    let rhs = operands.rhs();
-    if let Some(found) = reassociate_beside(op, lhs, 2, rhs, width) {
-        return Some(found);
+    // The fold, where it gives another tree: reassociation with the right operand's constant, or else with the left one's, or else the arms. Such
+    // a tree has fewer nodes (ShapeLaws, `reassociated_less`), so that the two are not compared.
+    pub(crate) fn try_fold_binary(self) -> Option<Decision>
+        ensures { Decides self.entry.operands.node.words.now result (fold_rewrite self.entry.by.width.bits (bitwise_of self.entry.by.op) (left_of (tree_of self.entry.operands.node)) (right_of (tree_of self.entry.operands.node))) }
+    {
+        let lhs = self.operands.lhs();
+        let rhs = self.operands.rhs();
+        if let Some(found) = self.by.reassociate_beside(lhs, rhs.tree) {
+            return Some(found);
+        }
+        if let Some(found) = self.by.reassociate_beside(rhs, lhs.tree) {
+            return Some(found);
+        }
+        self.arm_rewrite()
     }
-    if let Some(found) = reassociate_beside(op, rhs, operands.right, lhs, width) {
-        return Some(found);
-    }
-    fold_node_arms(op, operands, width)
 }

@@ -3,13 +3,13 @@
 // first where each node is visited after its children, the left child before the right one.
 #![tactic(auto)]
 
-ghost use Rattle.std.specs.Prelude.{◌≡◌, ◌≤◌, length};
+ghost use Rattle.std.specs.Prelude.{◌≡◌, IfOk, length};
 ghost use Rattle.expr.specs.Outcome.{mapped};
 ghost use Rattle.expr.specs.Expr.{encode, nodes};
 ghost use Rattle.expr.specs.Answers.{outcome};
+ghost use Rattle.expr.specs.Trees.{tree_of};
 ghost use Rattle.expr.specs.Optional.{map, option_of};
 ghost use Rattle.atom_simplifier.specs.Calls.{admitted, local_rewrite_at, first_site_at, written};
-ghost use Rattle.atom_simplifier.specs.Promises.{site_words, Writes, HoldsSite};
 ghost use Rattle.atom_simplifier.specs.Answers.{site_numbers};
 
 pub mod chain;
@@ -20,8 +20,9 @@ mod search;
 mod write;
 
 use expr::refusal::Refusal;
-use search::Site;
+use expr::tree::{Tree, Walk};
 use std::ops::ControlFlow;
+use width::Width;
 
 // A path has a byte for each level below the root, of which a tree has at most so many.
 const PATH_BYTES: usize = 63;
@@ -33,26 +34,14 @@ pub struct FoundSite {
     pub nodes: usize,
 }
 
-// The nodes of a tree that can be rewritten into an output of `room` words, or the refusal.
-fn admit(words: &[u64], width: u32, room: usize) -> Result<usize, Refusal>
-    ensures { outcome result ≡ mapped nodes (admitted words.now width room) }
+// The tree that can be rewritten into an output of `room` words and its width, or the refusal.
+fn admit<'a>(words: &'a [u64], width: u32, room: usize) -> Result<(Tree<'a>, Width), Refusal>
+    ensures tree { mapped (λ p. tree_of p.0) (outcome result) ≡ admitted words.now width room }
+    ensures width { IfOk result (λ p. p.1.bits ≡ width) }
 {
-    let n = width::check_tree_at(words, width)?;
-    if room < 2 * (n + 1) {
-        return Err(Refusal::OutputTooSmall);
-    }
-    Ok(n)
-}
-
-// Writes what a site of the words becomes; the number of words that are written.
-fn write_site(words: &[u64], site: Site, width: u32, out: &mut [u64]) -> usize
-    requires { HoldsSite words.now site (length out.old) × (length words.now ≤ 1024) }
-    ensures { Writes (site_words words.now site) site.local out.old out.new result }
-{
-    let at = site.at;
-    let end = at + site.words;
-    let decided = site.local;
-    write::write_replacement(&words[at..end], decided, width, out)
+    let supported = Width::try_from(width)?;
+    let tree = Tree::read(words)?.with_room(room, 1)?;
+    Ok((tree, supported))
 }
 
 // What the tree becomes at its root: the nodes of the replacement, if it has one. Its words are written at the front of `out`, and nothing else.
@@ -63,11 +52,11 @@ pub fn local_certifiable_atom_rewrite(
 ) -> Result<Option<usize>, Refusal>
     ensures { (mapped option_of (outcome result) ≡ mapped (map nodes) (local_rewrite_at words.now width (length out.old))) × (out.new ≡ written encode (local_rewrite_at words.now width (length out.old)) out.old) }
 {
-    admit(words, width, out.len())?;
-    let Some(decided) = local::root_rewrite(words, width) else {
+    let (tree, width) = admit(words, width, out.len())?;
+    let Some(decided) = local::root_rewrite(tree, width) else {
         return Ok(None);
     };
-    let n = write::write_replacement(words, decided, width, out);
+    let n = write::write_replacement(tree, decided, width, out);
     Ok(Some(n / 2))
 }
 
@@ -80,14 +69,14 @@ pub fn find_first_certifiable_atom_rewrite(
 ) -> Result<Option<FoundSite>, Refusal>
     ensures { (mapped (λ o. map site_numbers (option_of o)) (outcome result) ≡ mapped (map (λ s. (length s.path, nodes s.replacement))) (first_site_at words.now width (length path.old) (length out.old))) × (path.new ≡ written (λ s. s.path) (first_site_at words.now width (length path.old) (length out.old)) path.old) × (out.new ≡ written (λ s. encode s.replacement) (first_site_at words.now width (length path.old) (length out.old)) out.old) }
 {
-    admit(words, width, out.len())?;
+    let (tree, width) = admit(words, width, out.len())?;
     if path.len() < PATH_BYTES {
         return Err(Refusal::OutputTooSmall);
     }
-    match search::find_first_certifiable_atom_rewrite_at(words, width, path) {
+    match search::find_first_certifiable_atom_rewrite_at(Walk::over(tree), width, path) {
         ControlFlow::Continue(_) => Ok(None),
         ControlFlow::Break(site) => {
-            let n = write_site(words, site, width, out);
+            let n = write::write_replacement(site.node, site.local, width, out);
             Ok(Some(FoundSite {
                 path: site.levels,
                 nodes: n / 2,

@@ -1,18 +1,20 @@
 // What a node becomes, decided from its own words: `local_certifiable_atom_rewrite` without the writing.
-ghost use Rattle.std.specs.Prelude.{◌≡◌, ℕ, ◌≤◌, length, get_or};
-ghost use Rattle.expr.specs.Outcome.{accepted};
-ghost use Rattle.expr.specs.Parse.{arity_of};
-ghost use Rattle.expr.specs.Front.{Whole, tree_at, left_of};
+ghost use Rattle.std.specs.Prelude.{◌≡◌, ◌∷◌, ◌++◌, ℕ};
+ghost use Rattle.expr.specs.Expr.{unary, unary_number, unary_operand};
+ghost use Rattle.expr.specs.declared.kind.Unary.TheVariants.{Not};
+ghost use Rattle.expr.specs.Trees.{tree_of};
 ghost use Rattle.rewriting.specs.AtomSimplifier.{not_rewrite, local_rewrite};
-ghost use Rattle.atom_simplifier.specs.Promises.{number_of, IsDual, Decides};
-ghost use Rattle.atom_simplifier.specs.declared.fold.Bitwise.TheVariants.{And, Or};
+ghost use Rattle.atom_simplifier.specs.Promises.{Decides};
 
 use crate::fold;
-use crate::fold::Bitwise;
+use crate::fold::{BinaryFold, Bitwise, NodeFold};
 use crate::operands::Operands;
-use expr::{Arity, kind};
+use expr::kind::{Binary, Unary};
+use expr::tree::{Node, Tree};
+use width::Width;
 
-// A decision to rewrite. Places and lengths count the words of the node that it is about.
+// A decision to rewrite. Places and lengths count the words of the node that it is about: the chain writes over these words, so that they cannot
+// be lent here.
 #[derive(Clone, Copy)]
 pub(crate) enum Decision {
     // A part of the node's words: its place and its length.
@@ -24,103 +26,73 @@ pub(crate) enum Decision {
     DeMorgan(usize),
 }
 
-// A Not over an And or Or: De Morgan, where one of the two operands is a Not.
-fn de_morgan(node: &[u64]) -> Option<Decision>
-    requires { Whole node.now × (get_or node.now 0 0 ≡ 7) × IsDual (get_or node.now 2 0) × (length node.now ≤ 1024) }
-    ensures { Decides node.now result (not_rewrite (left_of (tree_at node.now))) }
+// A Not over the tree: the operand of a second Not; De Morgan, where it is over an And or Or of which one operand is a Not.
+fn not_rewrite(below: Tree<'_>) -> Option<Decision>
+    ensures { Decides (unary_number Not ∷ 0 ∷ below.entry.words.now) result (not_rewrite (tree_of below.entry)) }
 {
-    let right = 2 + fold::right_at(&node[2..]);
-    if node[4] == kind::NOT {
-        return Some(Decision::DeMorgan(right));
-    }
-    if node[right] == kind::NOT {
-        return Some(Decision::DeMorgan(right));
-    }
-    None
-}
-
-fn not_rewrite(node: &[u64]) -> Option<Decision>
-    requires { Whole node.now × (get_or node.now 0 0 ≡ 7) × (length node.now ≤ 1024) }
-    ensures { Decides node.now result (not_rewrite (left_of (tree_at node.now))) }
-{
-    let below = node[2];
-    match below {
-        kind::NOT => Some(Decision::Part(4, node.len() - 4)),
-        kind::AND => de_morgan(node),
-        kind::OR => de_morgan(node),
+    match below.node() {
+        Node::Unary(Unary::Not, operand) => Some(Decision::Part(4, operand.words.len())),
+        Node::Binary(Binary::And | Binary::Or, l, r) => {
+            if l.operand(Unary::Not).is_none() && r.operand(Unary::Not).is_none() {
+                return None;
+            }
+            Some(Decision::DeMorgan(4 + l.words.len()))
+        }
         _ => None,
     }
 }
 
 // A node with one child.
-pub(crate) fn unary_rewrite(node: &[u64]) -> Option<Decision>
-    requires { Whole node.now × (arity_of (get_or node.now 0 0) ≡ accepted 1) × (length node.now ≤ 1024) }
-    ensures { (w : ℕ) → Decides node.now result (local_rewrite w (tree_at node.now)) }
+fn unary_rewrite(kind: Unary, child: Tree<'_>) -> Option<Decision>
+    ensures { (w : ℕ) → Decides (unary_number kind ∷ unary_operand kind ∷ child.entry.words.now) result (local_rewrite w (unary kind (tree_of child.entry))) }
 {
-    let kind = node[0];
-    if kind == kind::NOT {
-        return not_rewrite(node);
+    match kind {
+        Unary::Not => not_rewrite(child),
+        Unary::Shr(0) => Some(Decision::Part(2, child.words.len())),
+        _ => None,
     }
-    if kind != kind::SHR {
-        return None;
-    }
-    if node[1] != 0 {
-        return None;
-    }
-    Some(Decision::Part(2, node.len() - 2))
 }
 
-fn and_rewrite(operands: Operands<'_>, width: u32) -> Option<Decision>
-    requires { (get_or operands.node.now 0 0 ≡ number_of And) × (width ≤ 64) }
-    ensures { Decides operands.entry.node.now result (local_rewrite width (tree_at operands.entry.node.now)) }
-{
-    let lhs = operands.lhs();
-    let rhs = operands.rhs();
-    if fold::same_part(lhs, rhs, width) {
-        return Some(Decision::Part(2, operands.right - 2));
+impl NodeFold<'_> {
+    // An And or Or of the same trees is one of them, and 3 and 1 are 1 whatever the width.
+    fn rewrite(self) -> Option<Decision>
+        ensures { Decides self.entry.operands.node.words.now result (local_rewrite self.entry.by.width.bits (tree_of self.entry.operands.node)) }
+    {
+        let width = self.by.width;
+        let lhs = self.operands.lhs();
+        let rhs = self.operands.rhs();
+        if self.by.op != Bitwise::Xor && fold::same_part(lhs.tree, rhs.tree, width) {
+            return Some(lhs.part());
+        }
+        if self.by.op == Bitwise::And
+            && fold::is_constant(lhs.tree, 3, width)
+            && fold::is_constant(rhs.tree, 1, width)
+        {
+            return Some(Decision::Constant(1));
+        }
+        self.try_fold_binary()
     }
-    if !fold::is_constant(lhs, 3, width) {
-        return fold::try_fold_binary(Bitwise::And, operands, width);
-    }
-    if !fold::is_constant(rhs, 1, width) {
-        return fold::try_fold_binary(Bitwise::And, operands, width);
-    }
-    Some(Decision::Constant(1))
-}
-
-fn or_rewrite(operands: Operands<'_>, width: u32) -> Option<Decision>
-    requires { (get_or operands.node.now 0 0 ≡ number_of Or) × (width ≤ 64) }
-    ensures { Decides operands.entry.node.now result (local_rewrite width (tree_at operands.entry.node.now)) }
-{
-    if fold::same_part(operands.lhs(), operands.rhs(), width) {
-        return Some(Decision::Part(2, operands.right - 2));
-    }
-    fold::try_fold_binary(Bitwise::Or, operands, width)
 }
 
 // A node with two children.
-pub(crate) fn binary_rewrite(operands: Operands<'_>, width: u32) -> Option<Decision>
-    requires { width ≤ 64 }
-    ensures { Decides operands.entry.node.now result (local_rewrite width (tree_at operands.entry.node.now)) }
+pub(crate) fn binary_rewrite(operands: Operands<'_>, width: Width) -> Option<Decision>
+    ensures { Decides operands.entry.node.words.now result (local_rewrite width.bits (tree_of operands.entry.node)) }
 {
-    match Bitwise::of(operands.node[0])? {
-        Bitwise::And => and_rewrite(operands, width),
-        Bitwise::Or => or_rewrite(operands, width),
-        Bitwise::Xor => fold::try_fold_binary(Bitwise::Xor, operands, width),
-    }
+    let op = Bitwise::of(operands.node.words[0])?;
+    let by = BinaryFold { op, width };
+    NodeFold { by, operands }.rewrite()
 }
 
 // The root of a tree.
-pub(crate) fn root_rewrite(node: &[u64], width: u32) -> Option<Decision>
-    requires { Whole node.now × (length node.now ≤ 1024) × (width ≤ 64) }
-    ensures { Decides node.now result (local_rewrite width (tree_at node.now)) }
+pub(crate) fn root_rewrite(tree: Tree<'_>, width: Width) -> Option<Decision>
+    ensures { Decides tree.entry.words.now result (local_rewrite width.bits (tree_of tree.entry)) }
 {
-    match expr::arity_of(node[0]).unwrap() {
-        Arity::Zero => None,
-        Arity::One => unary_rewrite(node),
-        Arity::Two => {
-            let right = fold::right_at(node);
-            binary_rewrite(Operands { node, right }, width)
+    match tree.node() {
+        Node::Leaf(_) => None,
+        Node::Unary(kind, child) => unary_rewrite(kind, child),
+        Node::Binary(_, lhs, _) => {
+            let right = 2 + lhs.words.len();
+            binary_rewrite(Operands { node: tree, right }, width)
         }
     }
 }

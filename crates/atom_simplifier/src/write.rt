@@ -5,11 +5,13 @@ ghost use Rattle.atom_simplifier.specs.Promises.{copied, dual_number, Writable, 
 
 use crate::local::Decision;
 use expr::kind;
+use expr::tree::Tree;
+use width::Width;
 
 // The only place where words are copied: as they stand, whatever the width.
-fn copy(part: &[u64], width: u32, out: &mut [u64])
+fn copy(part: &[u64], width: Width, out: &mut [u64])
     requires { length part.now ≤ length out.old }
-    ensures { Laid out.old out.new (copied width part.now) }
+    ensures { Laid out.old out.new (copied width.bits part.now) }
 {
     expr::copy_words(part, out);
 }
@@ -22,54 +24,60 @@ pub(crate) fn put_node(kind: u64, operand: u64, out: &mut [u64])
     out[1] = operand;
 }
 
-// And for Or, Or for And.
+// And for Or, Or for And: by the kind word, as it is written over another.
 pub(crate) fn dual(kind: u64) -> u64
     ensures { result ≡ dual_number kind }
 {
     if kind == kind::AND {
-        return kind::OR;
+        kind::OR
+    } else {
+        kind::AND
     }
-    kind::AND
 }
 
-// The node's kind over the part from `at` up to `end` and the constant c.
-fn write_join(node: &[u64], at: usize, end: usize, c: u64, width: u32, out: &mut [u64])
-    requires { (0 < length node.now) × (at ≤ end) × (end ≤ length node.now) × (4 + end ≤ length out.old + at) }
-    ensures { Laid out.old out.new (((get_or node.now 0 0 ∷ 0 ∷ []) ++ copied width (part at end node.now)) ++ (0 ∷ c ∷ [])) }
+// A node of the kind over the part and the constant c.
+fn write_join(kind: u64, part: &[u64], c: u64, width: Width, out: &mut [u64])
+    requires { 4 + length part.now ≤ length out.old }
+    ensures { Laid out.old out.new (((kind ∷ 0 ∷ []) ++ copied width.bits part.now) ++ (0 ∷ c ∷ [])) }
 {
-    put_node(node[0], 0, out);
-    copy(&node[at..end], width, &mut out[2..]);
-    let last = 2 + (end - at);
-    put_node(kind::CONSTANT, c, &mut out[last..]);
+    put_node(kind, 0, out);
+    copy(part, width, &mut out[2..]);
+    put_node(kind::CONSTANT, c, &mut out[2 + part.len()..]);
 }
 
-// A Not over the operand from `at` up to `end`.
-fn write_not(node: &[u64], at: usize, end: usize, width: u32, out: &mut [u64])
-    requires { (at ≤ end) × (end ≤ length node.now) × (2 + end ≤ length out.old + at) }
-    ensures { Laid out.old out.new ((7 ∷ 0 ∷ []) ++ copied width (part at end node.now)) }
+// A Not over the part.
+fn write_not(part: &[u64], width: Width, out: &mut [u64])
+    requires { 2 + length part.now ≤ length out.old }
+    ensures { Laid out.old out.new ((7 ∷ 0 ∷ []) ++ copied width.bits part.now) }
 {
     put_node(kind::NOT, 0, out);
-    copy(&node[at..end], width, &mut out[2..]);
+    copy(part, width, &mut out[2..]);
 }
 
 // The other kind over a Not of each operand; the right operand is at `right`.
-fn write_de_morgan(node: &[u64], right: usize, width: u32, out: &mut [u64])
+fn write_de_morgan(node: &[u64], right: usize, width: Width, out: &mut [u64])
     requires { (4 ≤ right) × (right ≤ length node.now) × (2 + length node.now ≤ length out.old) }
-    ensures { Laid out.old out.new (((dual_number (get_or node.now 2 0) ∷ 0 ∷ []) ++ ((7 ∷ 0 ∷ []) ++ copied width (part 4 right node.now))) ++ ((7 ∷ 0 ∷ []) ++ copied width (part right (length node.now) node.now))) }
+    ensures { Laid out.old out.new (((dual_number (get_or node.now 2 0) ∷ 0 ∷ []) ++ ((7 ∷ 0 ∷ []) ++ copied width.bits (part 4 right node.now))) ++ ((7 ∷ 0 ∷ []) ++ copied width.bits (part right (length node.now) node.now))) }
 {
     put_node(dual(node[2]), 0, out);
-    write_not(node, 4, right, width, &mut out[2..]);
-    write_not(node, right, node.len(), width, &mut out[right..]);
+    write_not(&node[4..right], width, &mut out[2..]);
+    write_not(&node[right..], width, &mut out[right..]);
 }
 
 // Writes what the decision makes of the node, and answers how many words that is.
-pub(crate) fn write_replacement(node: &[u64], local: Decision, width: u32, out: &mut [u64]) -> usize
-    requires { Writable node.now local (length out.old) × (length node.now ≤ 1024) }
-    ensures { Writes node.now local out.old out.new result }
+pub(crate) fn write_replacement(
+    node: Tree<'_>,
+    local: Decision,
+    width: Width,
+    out: &mut [u64],
+) -> usize
+    requires { Writable node.words.now local (length out.old) }
+    ensures { Writes node.entry.words.now local out.old out.new result }
 {
+    let words = node.words;
     match local {
         Decision::Part(at, len) => {
-            copy(&node[at..at + len], width, out);
+            copy(&words[at..at + len], width, out);
             len
         }
         Decision::Constant(c) => {
@@ -77,12 +85,12 @@ pub(crate) fn write_replacement(node: &[u64], local: Decision, width: u32, out: 
             2
         }
         Decision::Join(at, len, c) => {
-            write_join(node, at, at + len, c, width, out);
+            write_join(words[0], &words[at..at + len], c, width, out);
             4 + len
         }
         Decision::DeMorgan(right) => {
-            write_de_morgan(node, right, width, out);
-            2 + node.len()
+            write_de_morgan(words, right, width, out);
+            2 + words.len()
         }
     }
 }
