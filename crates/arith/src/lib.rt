@@ -77,7 +77,7 @@ pub fn mod_shr(a: u64, k: u64, bitwidth: u32) -> u64
     (a >> k) & mask
 }
 
-// Zero extension to `to` bits.
+// Zero extension to `to` bits. That it is `trunc` is its meaning on words: the Rust has both, and each is asked for by its name.
 #[tactic(auto, using(crate::proofs::MaskLaws::masked))]
 pub fn zext(v: u64, to: u32) -> u64
     ensures { result ≡ low_bits v to }
@@ -87,6 +87,7 @@ pub fn zext(v: u64, to: u32) -> u64
 }
 
 // Sign extension from `from` to `to` bits; where `to` is no wider it truncates, and from width 0 it is 0.
+#[tactic(auto, using(crate::proofs::SignLaws::sext_zero, crate::proofs::SignLaws::sext_narrow, crate::proofs::SignLaws::sext_clear, crate::proofs::SignLaws::sext_set))]
 pub fn sext(v: u64, from: u32, to: u32) -> u64
     ensures { result ≡ sign_extended v from to }
 {

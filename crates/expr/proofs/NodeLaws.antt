@@ -1,10 +1,10 @@
 -- The arity of a node, or its own refusal. Assumes nothing.
 use mathlib.Core.Path.{◌≡◌, sym, ap, ◌∙◌}
 use mathlib.Core.Bool.{Bool, true, false, not}
-use Prim.Native.Nat.{ℕ}
+use Prim.Native.Nat.{ℕ, ◌%◌, ◌<◌, ◌≤◌}
 use native.Mathlib.Omega.{arith}
 use lib.Dec.{eqb}
-use borrow.Author.Tests.{eq-eqb, ne_eqb, not-true, not-false}
+use borrow.Author.Tests.{eq-eqb, ne_eqb, not-true, not-false, lt-ltb, le-ltb, le-leb, lt-leb}
 use Rattle.std.specs.Prelude.{if◌then◌else◌, Result, Ok, Err}
 use Rattle.expr.specs.declared.refusal.Reason.{Reason}
 use Rattle.expr.specs.declared.refusal.Refusal.{Refusal}
@@ -12,7 +12,7 @@ use Rattle.expr.specs.declared.Arity.{Arity}
 use Rattle.expr.specs.Refusals.{refusal, reason_of}
 use Rattle.expr.specs.Outcome.{Outcome, refused, accepted, mapped, ◌and_then◌}
 use Rattle.expr.specs.OutcomeLaws.{then_accepted, Made, mapped_made}
-use Rattle.expr.specs.Parse.{Kind, arity, arity_of, kinds, kind_at, operand_ok, node_kind}
+use Rattle.expr.specs.Parse.{word_count_ok, Kind, arity, arity_of, kinds, kind_at, operand_ok, node_kind}
 use Rattle.expr.specs.KindLaws.{arity_is}
 use Rattle.expr.specs.Answers.{children_of, arity_outcome}
 
@@ -47,3 +47,45 @@ module _ (levels k o : ℕ) (a : Result Arity Refusal) (e : arity_outcome a ≡ 
 
       pub within : (levels ≡ 0 → ⊥) → accepted (children_of x) ≡ mapped arity (node_kind levels k o)
       within h = rw (limited levels k o kind.was, sym f ∙ not-false b g, ne_eqb levels 0 h, kind.made)
+
+-- ---- `arity_of`
+
+module _ (k : ℕ) where
+  pub leaf_arity : k < 2 → accepted 0 ≡ arity_of k
+  unfolding arity_of
+  leaf_arity a = simp (lt-ltb k 2 a)
+
+  pub binary_arity : 2 ≤ k → k < 7 → accepted 2 ≡ arity_of k
+  unfolding arity_of
+  binary_arity a b = simp (le-ltb k 2 a, lt-ltb k 7 b)
+
+  pub unary_arity : 2 ≤ k → 7 ≤ k → k < 13 → accepted 1 ≡ arity_of k
+  unfolding arity_of
+  unary_arity a b c = simp (le-ltb k 2 a, le-ltb k 7 b, lt-ltb k 13 c)
+
+  pub concat_arity : k ≡ 13 → accepted 2 ≡ arity_of k
+  unfolding arity_of
+  concat_arity e = rw e
+
+  pub unknown_arity : 2 ≤ k → 7 ≤ k → 13 ≤ k → (k ≡ 13 → ⊥) → refused (refusal 3) ≡ arity_of k
+  unfolding arity_of
+  unknown_arity a b c d = simp (le-ltb k 2 a, le-ltb k 7 b, le-ltb k 13 c, ne_eqb k 13 d)
+
+pub ruleset arities = (leaf_arity, binary_arity, unary_arity, concat_arity, unknown_arity)
+
+-- ---- `word_count_ok`
+
+module _ (n : ℕ) where
+  pub empty : n ≡ 0 → false ≡ word_count_ok n
+  unfolding word_count_ok
+  empty e = rw e
+
+  pub many : (n ≡ 0 → ⊥) → 1024 < n → false ≡ word_count_ok n
+  unfolding word_count_ok
+  many a b = simp (ne_eqb n 0 a, lt-leb n 1024 b)
+
+  pub pairs : (n ≡ 0 → ⊥) → n ≤ 1024 → eqb (n % 2) 0 ≡ word_count_ok n
+  unfolding word_count_ok
+  pairs a b = simp (ne_eqb n 0 a, le-leb n 1024 b)
+
+pub ruleset counts = (empty, many, pairs)

@@ -43,6 +43,7 @@ impl Arity {
 }
 
 // The number of children of a kind word. No other function decides it.
+#[tactic(auto, using(crate::proofs::NodeLaws::arities))]
 pub fn arity_of(kind: u64) -> Result<Arity, Refusal>
     ensures { arity_outcome result ≡ arity_of kind }
 {
@@ -81,16 +82,11 @@ fn node_arity(kind: u64, operand: u64, levels: usize) -> Result<Arity, Refusal>
 }
 
 // Whether so many words are a whole number of nodes, from 1 to 512.
+#[tactic(auto, using(crate::proofs::NodeLaws::counts))]
 fn word_count_ok(count: usize) -> bool
     ensures { result ≡ word_count_ok count }
 {
-    if count == 0 {
-        return false;
-    }
-    if 1024 < count {
-        return false;
-    }
-    count % 2 == 0
+    count != 0 && count <= 1024 && count % 2 == 0
 }
 
 // The subtree at the front of the words, of at most `levels` levels: its nodes, or the first refusal in word order.

@@ -18,6 +18,7 @@ use expr::tree::Tree;
 use widths::{Uniform, VariableWidths, widths_of};
 
 // Whether a width is one of 1 to 64.
+#[tactic(auto, using(crate::specs::WidthLaws::in_range, crate::specs::WidthLaws::too_narrow, crate::specs::WidthLaws::too_wide))]
 pub fn is_supported(width: u32) -> bool
     ensures { result ≡ supported width }
 {
