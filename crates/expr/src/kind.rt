@@ -66,7 +66,7 @@ pub enum Binary {
 impl Leaf {
     ghost use Rattle.expr.specs.Expr.{leaf_number, leaf_operand};
 
-    // The kind of a leaf, by its two words; of the other kinds it is not asked.
+    // The kind of a leaf, read from its two words; of the other kinds it is not asked.
     pub(crate) fn of(kind: u64, operand: u64) -> Leaf
         requires { kind ≡ 1 → operand ≤ 4294967295 }
         ensures { (k : Leaf) → kind ≡ leaf_number k → operand ≡ leaf_operand k → result ≡ k }

@@ -42,7 +42,7 @@ impl Arity {
     }
 }
 
-// The number of children of a kind word. No other function decides it.
+// The number of children of a kind word: the project's rules have a match with ranges decide it, and no other function.
 #[tactic(auto, using(crate::proofs::NodeLaws::arities))]
 pub fn arity_of(kind: u64) -> Result<Arity, Refusal>
     ensures { arity_outcome result ≡ arity_of kind }
@@ -56,7 +56,7 @@ pub fn arity_of(kind: u64) -> Result<Arity, Refusal>
     }
 }
 
-// Whether the kind allows the operand.
+// Whether the kind allows the operand, by a node's two words, which are not yet known to be one's.
 fn operand_ok(kind: u64, operand: u64) -> bool
     ensures { result ≡ operand_ok kind operand }
 {
@@ -67,7 +67,7 @@ fn operand_ok(kind: u64, operand: u64) -> bool
     }
 }
 
-// The arity of a node with `levels` levels left for it and what is below it, or its own refusal.
+// The arity of a node, by its two words, with `levels` levels left for it and what is below it, or its own refusal.
 fn node_arity(kind: u64, operand: u64, levels: usize) -> Result<Arity, Refusal>
     ensures { arity_outcome result ≡ mapped arity (node_kind levels kind operand) }
 {

@@ -46,38 +46,32 @@ pub struct Reason {
     pub second: u32,
 }
 
-// So that each case below takes one line.
-fn numbered(number: u32, first: u32, second: u32) -> Reason
-    ensures { result ≡ record { number = number; first = first; second = second } }
-{
-    Reason {
-        number,
-        first,
-        second,
-    }
-}
-
 // The number and the values of a refusal.
 impl From<Refusal> for Reason {
     ghost from_gives = { λ refusal reason. reason ≡ reason_of refusal };
 
     fn from(refusal: Refusal) -> Reason {
-        match refusal {
-            Refusal::WidthOutOfRange => numbered(1, 0, 0),
-            Refusal::WordCount => numbered(2, 0, 0),
-            Refusal::UnknownKind => numbered(3, 0, 0),
-            Refusal::OperandOutOfRange => numbered(4, 0, 0),
-            Refusal::TooDeep => numbered(5, 0, 0),
-            Refusal::WordsEnd => numbered(6, 0, 0),
-            Refusal::WordsLeftOver => numbered(7, 0, 0),
-            Refusal::NotUniform => numbered(8, 0, 0),
-            Refusal::OutputTooSmall => numbered(9, 0, 0),
-            Refusal::UnsupportedWidth(width) => numbered(10, width, 0),
-            Refusal::WidthMismatch(left, right) => numbered(11, left, right),
-            Refusal::NarrowingExtension(target, child) => numbered(12, target, child),
-            Refusal::WideningTruncation(target, child) => numbered(13, target, child),
-            Refusal::NoFrame => numbered(14, 0, 0),
-            Refusal::NoWord => numbered(15, 0, 0),
+        let (number, first, second) = match refusal {
+            Refusal::WidthOutOfRange => (1, 0, 0),
+            Refusal::WordCount => (2, 0, 0),
+            Refusal::UnknownKind => (3, 0, 0),
+            Refusal::OperandOutOfRange => (4, 0, 0),
+            Refusal::TooDeep => (5, 0, 0),
+            Refusal::WordsEnd => (6, 0, 0),
+            Refusal::WordsLeftOver => (7, 0, 0),
+            Refusal::NotUniform => (8, 0, 0),
+            Refusal::OutputTooSmall => (9, 0, 0),
+            Refusal::UnsupportedWidth(width) => (10, width, 0),
+            Refusal::WidthMismatch(left, right) => (11, left, right),
+            Refusal::NarrowingExtension(target, child) => (12, target, child),
+            Refusal::WideningTruncation(target, child) => (13, target, child),
+            Refusal::NoFrame => (14, 0, 0),
+            Refusal::NoWord => (15, 0, 0),
+        };
+        Reason {
+            number,
+            first,
+            second,
         }
     }
 }

@@ -32,7 +32,7 @@ pub struct CostInfo {
     pub has_var_dep: bool,
 }
 
-// What a node weighs by itself.
+// What a node weighs by itself: a name for it, as all three kinds of node ask.
 fn own_weight(nonlinear: bool) -> u32
     ensures { result ≡ own_weight nonlinear }
 {
