@@ -1,7 +1,7 @@
--- `report_lines::line::put_line` meets its contract. Assumes nothing.
+-- `report_lines::lent::Ongoing::put_line` meets its contract. Assumes nothing.
 use Rattle.arith.specs.NeedLaws.{basics}
 use Rattle.report_lines.proofs.PrintedLaws.{reading}
-use Rattle.report_lines.proofs.line.put_line.Goals as goal
+use Rattle.report_lines.proofs.lent.Ongoing.put_line.Goals as goal
 
 ruleset laws = (basics, reading)
 
