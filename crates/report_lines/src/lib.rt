@@ -64,7 +64,7 @@ fn sound_room(line: usize, words: usize, work: usize, out: usize) -> bool
     line == LINE_BYTES && 1024 <= words && 4096 <= work && TEXT_BYTES <= out
 }
 
-// Whether a call goes on; else it does nothing.
+// Whether a call goes on; else it does nothing. Five numbers in one test: it is made before there is a struct that holds the places.
 fn is_ready(s: State, line: usize, words: usize, work: usize, out: usize) -> bool
     ensures { result ≡ ready s line words work out }
 {

@@ -130,7 +130,7 @@ impl Ongoing {
         }
     }
 
-    // A line whose words are read.
+    // A line whose words are read. The work without the rest of `Scratch`, since `read` borrows from that.
     fn put_read(self, read: Read, work: &mut [u64], out: &mut [u8]) -> Line
         requires { (4096 ≤ length work.old) × (9321 ≤ length out.old) }
         ensures { Printed (chained (read.entry.width, read.entry.words.now)) self.totals out.old out.new result.put result.totals }
