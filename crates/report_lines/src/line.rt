@@ -1,5 +1,5 @@
 // One line: its row, the frame of its end tree, and the sums with it.
-ghost use Rattle.std.specs.Prelude.{◌≡◌, max, ◌≤◌, length};
+ghost use Rattle.std.specs.Prelude.{◌≡◌, max, ◌≤◌, length, MatchResult};
 ghost use Rattle.expr.specs.Refusals.{reason_of};
 ghost use Rattle.expr.specs.Outcome.{refused, accepted, mapped};
 ghost use Rattle.expr.specs.Front.{Whole};
@@ -22,22 +22,16 @@ pub(crate) struct Line {
     pub(crate) totals: Totals,
 }
 
-// A line's width, and the words of its tree.
+// What comes of an accepted line: its width, the words of its tree and of its end tree, and the rewrites between them.
 #[derive(Clone, Copy, Drop)]
-struct Read<'a> {
+struct Accepted<'a> {
     width: u32,
     words: &'a [u64],
-    ghost few: { length words.now ≤ 1024 },
-}
-
-// The same of an accepted line, with the words of the end tree.
-#[derive(Clone, Copy, Drop)]
-struct Done<'a> {
-    read: Read<'a>,
     end: &'a [u64],
     rewrites: usize,
-    ghost whole: { Whole read.words.now },
+    ghost whole: { Whole words.now },
     ghost end_whole: { Whole end.now },
+    ghost few: { length words.now ≤ 1024 },
     ghost end_few: { length end.now ≤ 1024 },
 }
 
@@ -66,20 +60,37 @@ fn conditions(words: &[u64]) -> u64
     found
 }
 
-impl Read<'_> {
-    // The chain, first with short work, and with work for 2,048 nodes only where that is too little: the chain sets to 0 what it is lent.
-    fn chain(self, work: &mut [u64]) -> Result<ChainEnd, Refusal>
-        requires { 4096 ≤ length work.old }
-        ensures { Ran (chained (self.entry.width, self.entry.words.now)) self.entry.width self.entry.words.now work.new (mapped end_numbers (outcome result)) }
-    {
-        let short = 4 * self.words.len();
-        match chain::chain(self.words, self.width, &[], &mut work[..short]) {
-            Err(Refusal::OutputTooSmall) => {
-                chain::chain(self.words, self.width, &[], &mut work[..4096])
-            }
-            answer => answer,
-        }
+// The chain, first with short work, and with work for 2,048 nodes only where that is too little: the chain sets to 0 what it is lent.
+fn run_chain(words: &[u64], width: u32, work: &mut [u64]) -> Result<ChainEnd, Refusal>
+    requires { (4096 ≤ length work.old) × (length words.now ≤ 1024) }
+    ensures { Ran (chained (width, words.now)) width words.now work.new (mapped end_numbers (outcome result)) }
+{
+    let short = 4 * words.len();
+    match chain::chain(words, width, &[], &mut work[..short]) {
+        Err(Refusal::OutputTooSmall) => chain::chain(words, width, &[], &mut work[..4096]),
+        answer => answer,
     }
+}
+
+// What comes of a line, its 0a not counted.
+fn run_line<'a>(
+    line: &[u8],
+    words: &'a mut [u64],
+    work: &'a mut [u64],
+) -> Result<Accepted<'a>, Refusal>
+    requires { (1024 ≤ length words.old) × (4096 ≤ length work.old) }
+    ensures { MatchResult result (λ done. outcome_of line.now ≡ accepted (done_by done.width done.words.now done.end.now done.rewrites)) (λ refusal. outcome_of line.now ≡ refused (reason_of refusal)) }
+{
+    // with no look at the tree: the chain checks it
+    let read = frame::read_line(line, words)?;
+    let words = &words[..2 * read.nodes];
+    let end = run_chain(words, read.width, work)?;
+    Ok(Accepted {
+        width: read.width,
+        words,
+        end: &work[..2 * end.nodes],
+        rewrites: end.rewrites,
+    })
 }
 
 impl Ongoing {
@@ -102,12 +113,12 @@ impl Ongoing {
     }
 
     // A line that is accepted.
-    fn accept(self, done: Done, out: &mut [u8]) -> Line
+    fn accept(self, done: Accepted, out: &mut [u8]) -> Line
         requires { 9321 ≤ length out.old }
-        ensures { Printed (accepted (done_by done.entry.read.width done.entry.read.words.now done.entry.end.now done.entry.rewrites)) self.totals out.old out.new result.put result.totals }
+        ensures { Printed (accepted (done_by done.entry.width done.entry.words.now done.entry.end.now done.entry.rewrites)) self.totals out.old out.new result.put result.totals }
     {
         let totals = self.totals;
-        let before = (done.read.words.len() / 2) as u64;
+        let before = (done.words.len() / 2) as u64;
         let after = (done.end.len() / 2) as u64;
         let row = [
             totals.lines + 1,
@@ -115,10 +126,10 @@ impl Ongoing {
             before,
             after,
             done.rewrites as u64,
-            conditions(done.read.words),
+            conditions(done.words),
         ];
         let k = text::put_fields(&row, out);
-        let m = frame::put_frame(done.end, done.read.width, &mut out[k..]).unwrap();
+        let m = frame::put_frame(done.end, done.width, &mut out[k..]).unwrap();
         Line {
             put: k + m,
             totals: Totals {
@@ -130,40 +141,14 @@ impl Ongoing {
         }
     }
 
-    // A line whose words are read. The work without the rest of `Scratch`, since `read` borrows from that.
-    fn put_read(self, read: Read, work: &mut [u64], out: &mut [u8]) -> Line
-        requires { (4096 ≤ length work.old) × (9321 ≤ length out.old) }
-        ensures { Printed (chained (read.entry.width, read.entry.words.now)) self.totals out.old out.new result.put result.totals }
-    {
-        match read.chain(work) {
-            Err(refusal) => self.refuse(refusal, out),
-            Ok(end) => {
-                let done = Done {
-                    read,
-                    end: &work[..2 * end.nodes],
-                    rewrites: end.rewrites,
-                };
-                self.accept(done, out)
-            }
-        }
-    }
-
     // A line, its 0a not counted.
     pub(crate) fn put_line(self, line: &[u8], scratch: &mut Scratch, out: &mut [u8]) -> Line
         requires { 9321 ≤ length out.old }
         ensures { Printed (outcome_of line.now) self.totals out.old out.new result.put result.totals }
     {
-        // with no look at the tree: the chain checks it
-        match frame::read_line(line, scratch.words) {
+        match run_line(line, scratch.words, scratch.work) {
             Err(refusal) => self.refuse(refusal, out),
-            Ok(found) => {
-                let words = &scratch.words[..2 * found.nodes];
-                let read = Read {
-                    width: found.width,
-                    words,
-                };
-                self.put_read(read, scratch.work, out)
-            }
+            Ok(done) => self.accept(done, out),
         }
     }
 }

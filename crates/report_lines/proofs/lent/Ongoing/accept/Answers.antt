@@ -21,6 +21,6 @@ overflow_add-result-4 c = search laws
 pub returns : goal.returns
 returns c =
     let fits : frame_bytes c.args.done.end.now ≤ length (tail c.put_fields-k.result c.put_fields-k.new.out) = search laws in
-    let laid = tree_laid c.args.done.end.now (search laws) c.args.done.read.width _ _ _ c.put_frame.ensures fits in
-    let count = frame_count c.args.done.end.now (search laws) c.args.done.read.width _ _ _ c.put_frame.ensures fits _ c.unwrap-m.ensures in
+    let laid = tree_laid c.args.done.end.now (search laws) c.args.done.width _ _ _ c.put_frame.ensures fits in
+    let count = frame_count c.args.done.end.now (search laws) c.args.done.width _ _ _ c.put_frame.ensures fits _ c.unwrap-m.ensures in
     search (laws, laid, count)

@@ -1,7 +1,7 @@
--- `report_lines::line::Read::chain` meets its contract. Assumes nothing.
+-- `report_lines::line::run_chain` meets its contract. Assumes nothing.
 use Rattle.arith.specs.NeedLaws.{basics}
 use Rattle.report_lines.proofs.RanLaws.{running}
-use Rattle.report_lines.proofs.line.Read.chain.Goals as goal
+use Rattle.report_lines.proofs.line.run_chain.Goals as goal
 
 ruleset laws = (basics, running)
 
