@@ -72,7 +72,8 @@ fn run_chain(words: &[u64], width: u32, work: &mut [u64]) -> Result<ChainEnd, Re
     }
 }
 
-// What comes of a line, its 0a not counted.
+// What comes of a line, its 0a not counted. Two slices and not `Scratch`: the answer borrows from them, which the check does not follow through a struct
+// with ghost fields.
 fn run_line<'a>(
     line: &[u8],
     words: &'a mut [u64],
