@@ -1,5 +1,6 @@
 -- A line that is read. Assumes nothing.
-use Rattle.std.proofs.Common.{◌≡◌, refl, sym, ap, ap₂, subst, ◌∙◌, Bool, true, false, ◌&&◌, List, [], ◌∷◌, ◌++◌, ℕ, suc, ◌+◌, ◌-◌, ◌*◌, ◌/◌, ◌%◌, ◌^◌, ◌≤◌, ◌<◌, min, Option, None, Some, Result, Ok, Err, length, take, drop, get_or, arith, length-drop, length-take, take-append-drop, take_all, take_at, lt-ltb, le-ltb, ne_eqb, leb-true, Fits, w32, w64}
+use Rattle.std.proofs.Common.{◌≡◌, refl, sym, ap, ap₂, subst, ◌∙◌, Bool, true, false, ◌&&◌, List, [], ◌∷◌, ◌++◌, ℕ, suc, ◌+◌, ◌-◌, ◌*◌, ◌/◌, ◌%◌, ◌^◌, ◌≤◌, ◌<◌, min, Option, None, Some, MatchOption, Result, Ok, Err, length, take, drop, get_or, arith, length-drop, length-take, take-append-drop, take_all, take_at, lt-ltb, le-ltb, ne_eqb, leb-true, Fits, w32, w64}
+use Rattle.std.specs.Bool.{then_some}
 use Rattle.std.proofs.Math.Dec.{leb, ltb, eqb}
 use Rattle.std.proofs.Math.Seq.{take-suc}
 use Rattle.arith.specs.ChoiceLaws.{both_true}
@@ -29,14 +30,13 @@ use Rattle.frame.specs.declared.Frame.{Frame}
 
 -- ---- `nodes_in`
 
-module _ (m : ℕ) where
-  pub some_nodes : (leb 20 m && (leb m 9218 && eqb (m % 18) 2)) ≡ true → (m / 18 ≡ nodes_in m) × (1 ≤ m / 18)
-  unfolding nodes_in
-  some_nodes e = (rw e, omega (arith, leb-true 20 m (both_true _ _ e).0))
-
-  pub no_nodes : (leb 20 m && (leb m 9218 && eqb (m % 18) 2)) ≡ false → nodes_in m ≡ 0
-  unfolding nodes_in
-  no_nodes e = rw e
+pub nodes_told : (m : ℕ) (r : Option ℕ) → r ≡ then_some (leb 20 m && (leb m 9218 && eqb (m % 18) 2)) (m / 18) → MatchOption r (nodes_in m ≡ 0) (λ n. (n ≡ nodes_in m) × (1 ≤ n))
+unfolding nodes_in
+nodes_told m r e = subst (λ (o : Option ℕ). MatchOption o (nodes_in m ≡ 0) (λ n. (n ≡ nodes_in m) × (1 ≤ n))) (sym e) (go _ refl)
+  where
+    go : (b : Bool) → (leb 20 m && (leb m 9218 && eqb (m % 18) 2)) ≡ b → MatchOption (then_some b (m / 18)) (nodes_in m ≡ 0) (λ n. (n ≡ nodes_in m) × (1 ≤ n))
+    go true f = (rw f, omega (arith, leb-true 20 m (both_true _ _ f).0))
+    go false f = rw f
 
 -- ---- `without_end`
 
@@ -102,10 +102,10 @@ module _ (line : List ℕ) (n : ℕ) (h : (n ≡ nodes_in (length line)) × (1 �
             ∙ sym (all_append (take 2 line) (drop 2 line))
             ∙ ap all_digits (take-append-drop 2 line)
 
-        pub bad_digit : (width.good && good) ≡ false → (words : List ℕ) → Decodes line words None
+        bad_digit : (width.good && good) ≡ false → (words : List ℕ) → Decodes line words None
         bad_digit e words = not_lined line words (rw (lt-ltb 0 (nodes_in (length line)) (omega (arith, h)), sym good_is ∙ e))
 
-        pub decoded : (width.good && good) ≡ true → (words : List ℕ) → words ≡ over (words_of (min (length (tail 2 line) / 18) (length before / 2)) (tail 2 line)) before
+        decoded : (width.good && good) ≡ true → (words : List ℕ) → words ≡ over (words_of (min (length (tail 2 line) / 18) (length before / 2)) (tail 2 line)) before
             → Decodes line words (Some (record { width = width.value; nodes = n }))
         decoded e words l =
             let laid : words ≡ over (words_of n (drop 2 line)) before = l ∙ ap₂ (λ (i : ℕ) (bs : List ℕ). over (words_of i bs) before) all_nodes (tail_drop 2 line) in
@@ -117,7 +117,15 @@ module _ (line : List ℕ) (n : ℕ) (h : (n ≡ nodes_in (length line)) × (1 �
               few = bytes.1;
             }
 
-pub ruleset decoding = (none_decoded, width_there, width_fits, bad_digit, decoded)
+        pub digits_read : (r : Option Frame) → r ≡ then_some (width.good && good) (record { width = width.value; nodes = n }) → (words : List ℕ)
+            → words ≡ over (words_of (min (length (tail 2 line) / 18) (length before / 2)) (tail 2 line)) before → Decodes line words r
+        digits_read r e words l = subst (Decodes line words) (sym e) (go (width.good && good) refl)
+          where
+            go : (b : Bool) → (width.good && good) ≡ b → Decodes line words (then_some b (record { width = width.value; nodes = n }))
+            go true f = decoded f words l
+            go false f = bad_digit f words
+
+pub ruleset decoding = (none_decoded, width_there, width_fits, digits_read)
 
 -- ---- `hand_over`
 

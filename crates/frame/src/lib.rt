@@ -22,14 +22,11 @@ pub struct Frame {
 }
 
 // How many nodes a line of so many bytes has, its 0a not counted, if a frame has that length.
+#[tactic(auto, using(crate::proofs::ReadLaws::nodes_told))]
 pub fn nodes_in(bytes: usize) -> Option<usize>
     ensures { MatchOption result (nodes_in bytes ≡ 0) (λ n. (n ≡ nodes_in bytes) × (1 ≤ n)) }
 {
-    if (20 <= bytes) & ((bytes <= 9218) & (bytes % 18 == 2)) {
-        Some(bytes / 18)
-    } else {
-        None
-    }
+    ((20 <= bytes) & ((bytes <= 9218) & (bytes % 18 == 2))).then_some(bytes / 18)
 }
 
 // ---- reading
@@ -53,14 +50,10 @@ fn decode(line: &[u8], words: &mut [u64]) -> Option<Frame>
     let nodes = nodes_in(line.len())?;
     let width = hexadecimal::number(&line[..2]);
     let good = hexadecimal::read_nodes(&line[2..], words);
-    if width.good & good {
-        Some(Frame {
-            width: width.value as u32,
-            nodes,
-        })
-    } else {
-        None
-    }
+    (width.good & good).then_some(Frame {
+        width: width.value as u32,
+        nodes,
+    })
 }
 
 // The same for words that are lent from outside: 9 where they are fewer than 1,024, and then nothing is written.
@@ -99,6 +92,7 @@ pub fn read_frame(line: &[u8], out: &mut [u64]) -> Result<Frame, Refusal>
     ensures answer { outcome result ≡ mapped (λ p. record { width = p.0; nodes = nodes p.1 }) (read_frame line.now (length out.old)) }
     ensures written { out.new ≡ lent_after (λ p. encode p.1) (read_frame line.now (length out.old)) out.old }
 {
+    // fixed memory: as many words as the largest frame has
     let mut words = [0; 1024];
     read_by(without_end(line), &mut words, out)
 }

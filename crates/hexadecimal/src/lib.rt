@@ -9,7 +9,7 @@ ghost use Rattle.hexadecimal.specs.Hex.{glyph_of, digit_of, digits, all_digits, 
 ghost use Rattle.hexadecimal.specs.Promises.{all_zeros};
 ghost use Rattle.hexadecimal.specs.Nodes.{nodes_text, words_of};
 
-// What bytes stand for, and whether each of them is a digit. Not an Option: the value is promised also where a byte is no digit.
+// What bytes stand for, and whether each of them is a digit. Not an Option: the value is promised, and used, also where a byte is no digit.
 #[derive(Clone, Copy)]
 pub struct Parsed {
     pub value: u64,
@@ -25,7 +25,7 @@ fn digit(b: u8) -> Option<u64>
     let d = x % 16 + 9 * (x / 64);
     let low = (47 < x) & (x < 58);
     let high = (96 < x) & (x < 103);
-    if low | high { Some(d) } else { None }
+    (low | high).then_some(d)
 }
 
 // The byte of a digit.
@@ -66,7 +66,7 @@ pub fn put_digits(n: u64, k: usize, out: &mut [u8])
     }
 }
 
-// How many digits n has without zeros in front.
+// How many digits n has without zeros in front. A `while`: it divides until nothing is left and counts no index.
 fn count_places(n: u64) -> usize
     ensures { result ≡ places n }
 {
@@ -140,7 +140,8 @@ fn read_node(s: &[u8], out: &mut [u64]) -> bool
 }
 
 // Puts the words of the nodes whose digits `s` is at the front of `out`, as many whole nodes as `s` has and `out` has room for; whether each
-// byte that was read is a digit. The words are written also where one is not.
+// byte that was read is a digit. The words are written also where one is not. By places: the library says of `chunks_exact_mut` only what the
+// chunks are at first, and not what the slice ends as.
 pub fn read_nodes(s: &[u8], out: &mut [u64]) -> bool
     ensures good { result ≡ all_digits (take (18 * min (length s.now / 18) (length out.old / 2)) s.now) }
     ensures written { out.new ≡ over (words_of (min (length s.now / 18) (length out.old / 2)) s.now) out.old }
@@ -180,7 +181,7 @@ fn put_node(words: &[u64], out: &mut [u8])
 }
 
 // Puts the digits of nodes at the front of `out`, as many whole nodes as there are words for and `out` has room for. Of a kind its last two digits
-// are written.
+// are written. By places, as in `read_nodes`.
 pub fn put_nodes(words: &[u64], out: &mut [u8])
     ensures { out.new ≡ over (nodes_text (min (length words.now / 2) (length out.old / 18)) words.now) out.old }
 {

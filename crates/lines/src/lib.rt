@@ -6,7 +6,7 @@ ghost use Rattle.std.specs.Prelude.{◌≡◌, min, length, take};
 ghost use Rattle.expr.specs.Lent.{over};
 ghost use Rattle.lines.specs.Lines.{up_to, has_end, used_of, kept};
 
-// How many bytes of a chunk were read, how many of its line are kept, and whether the line has ended; the two numbers are promised in either case.
+// How many bytes of a chunk were read, how many of its line are kept, and whether the line has ended. No Option: both numbers count in either case.
 #[derive(Clone, Copy)]
 pub struct Taken {
     pub used: usize,

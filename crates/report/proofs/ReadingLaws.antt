@@ -1,13 +1,18 @@
 -- Steps through a chunk, and chunks one after the other. Assumes nothing.
-use Rattle.std.proofs.Common.{◌≡◌, sym, ap, subst, ◌∙◌, Bool, true, List, [], ◌++◌, append_assoc, ℕ, ◌+◌, ◌≤◌, length, take, drop, arith, length-append, le-leb}
+use Rattle.std.proofs.Common.{◌≡◌, refl, sym, ap, subst, ◌∙◌, Bool, true, List, [], ◌++◌, append_assoc, ℕ, ◌+◌, ◌≤◌, length, take, drop, arith, length-append, le-leb}
 use Rattle.std.proofs.Math.Seq.{drop-length}
 use Rattle.expr.specs.Parts.{tail}
 use Rattle.expr.specs.TailLaws.{tail_drop}
-use Rattle.report_lines.specs.Steps.{ready, rest_of, Advances, FeedsIf, Feeds, FinishesIf, Finishes}
+use Rattle.report_lines.specs.Steps.{ready, sound_totals, sound_room, rest_of, Advances, FeedsIf, Feeds, FinishesIf, Finishes}
 use Rattle.report_lines.specs.StepsLaws.{ready_open, no_step, step_on}
 use Rattle.report_lines.specs.declared.State.{State}
 use Rattle.report_lines.specs.declared.Step.{Step}
 use Rattle.report.specs.Reading.{ReadsFront, ReadsChunk, ReadsSome}
+
+-- before the first byte
+pub start_ready : (s : State) → ((s.totals.lines ≡ 0) × ((s.totals.refused ≡ 0) × ((s.totals.before ≡ 0) × (s.totals.after ≡ 0)))) × (s.have ≡ 0) → ready s 9219 1024 4096 131072 ≡ true
+unfolding ready sound_totals sound_room
+start_ready s e = rw (e.0.0, e.0.1.0, e.0.1.1.0, e.0.1.1.1, e.1) refl
 
 -- ---- one call
 

@@ -6,12 +6,12 @@ ghost use Rattle.std.specs.Prelude.{◌-◌, ◌≤◌, ◌≡◌, true, IfOk, O
 ghost use Rattle.report_lines.specs.Steps.{ready};
 ghost use Rattle.report.specs.Reading.{ReadsFront, ReadsChunk, ReadsSome};
 
-use report_lines::{LINE_BYTES, MOST_LINES, State, Totals};
+use report_lines::{LINE_BYTES, MOST_LINES, State};
 use std::io;
 use std::io::Read;
 
 // The state of a report, and the buffers that it is made in: for a line, for the words of its tree, for the chain's work, for 2,048 nodes, and for what
-// is printed. The text of one read normally goes out in one write.
+// is printed. The text of one read normally goes out in one write. Arrays, since the program has fixed memory and no heap.
 #[derive(Drop)]
 struct Report {
     state: State,
@@ -25,14 +25,8 @@ struct Report {
 
 impl Report {
     fn new() -> Report {
-        let totals = Totals {
-            lines: 0,
-            refused: 0,
-            before: 0,
-            after: 0,
-        };
         Report {
-            state: State { totals, have: 0 },
+            state: State::default(),
             line: [0; LINE_BYTES],
             words: [0; 1024],
             work: [0; 4096],
@@ -63,6 +57,7 @@ impl Report {
         ensures { OnOk result (ReadsChunk self.old.state self.old.line chunk.now self.new.state self.new.line) }
     {
         let mut at = 0;
+        // a `while`: each turn goes on by as many bytes as the one before has read
         while at < chunk.len() {
             let used = self.feed_front(rt, &chunk[at..])?;
             if used == 0 {
@@ -93,6 +88,7 @@ impl Report {
     fn read_all(&mut self, rt: &impl Print, reader: &mut impl Read) -> io::Result<()>
         ensures { OnOk result (ReadsSome self.old.state self.old.line self.new.state self.new.line) }
     {
+        // fixed memory: as many bytes as a pipe holds
         let mut input = [0; 65536];
         for _ in 0..u64::MAX {
             if self.read_some(rt, reader, &mut input)? == 0 {

@@ -9,9 +9,12 @@ use mir.Syntax.{w64}
 use mir.Val.{Fits}
 use mir.Facts.{and_yes}
 use lib.Dec.{T, leb→le}
-use lib.ListN.{length, drop, get_or}
+use lib.ListN.{length, take, drop, get_or}
+use lib.Seq.{drop-drop}
 use borrow.Author.Tests.{ne_eqb, eq-eqb}
 use Rattle.std.specs.Prelude.{if◌then◌else◌}
+use Rattle.std.specs.Simd.{first_chunks}
+use Rattle.std.proofs.lemmas.List.{get_or-take, get_or-drop}
 use Rattle.expr.specs.Expr.{Expr, leaf, unary, binary, unary_number, unary_operand, binary_number, encode}
 use Rattle.expr.specs.declared.kind.Leaf.TheVariants.{Constant, Variable}
 use Rattle.expr.specs.declared.kind.Unary.{Unary}
@@ -62,6 +65,12 @@ highest_end (k ∷ []) zero h = refl
 highest_end (k ∷ o ∷ ws) zero h = absurd (omega arith)
 highest_end (k ∷ ws) (suc i) h = highest_end ws i (le_of_suc-le-suc h)
 
+-- node k of the words, as two of them
+chunk_at : (n k : ℕ) (ws : List ℕ) → k < n → get_or (first_chunks 2 n ws) k [] ≡ take 2 (drop (2 * k) ws)
+chunk_at zero k ws h = absurd (omega arith)
+chunk_at (suc n) zero ws h = refl
+chunk_at (suc n) (suc k) ws h = chunk_at n k (drop 2 ws) (le_of_suc-le-suc h) ∙ ap (take 2) (drop-drop (2 * k) 2 ws ∙ ap (λ (i : ℕ). drop i ws) (let e : 2 + 2 * k ≡ 2 * suc k = omega arith in e))
+
 -- the first i nodes are counted
 pub record Finding (ws : List ℕ) (found i : ℕ) : Type 0 where
   pub is : max found (highest (drop (2 * i) ws)) ≡ highest ws
@@ -77,11 +86,22 @@ module _ (ws : List ℕ) (small : highest ws ≤ 4294967296) where
           highest_from ws (2 * i) (omega arith)
           ∙ ap₂ (λ (a b : ℕ). max (own_conditions (get_or ws (2 * i) 0) (get_or ws a 0)) (highest (drop b ws))) (let e : suc (2 * i) ≡ 2 * i + 1 = omega arith in e) (let e : suc (suc (2 * i)) ≡ 2 * (i + 1) = omega arith in e)
 
-      pub own_small : own_conditions (get_or ws (2 * i) 0) (get_or ws (2 * i + 1) 0) ≤ 4294967296
-      own_small = omega (arith, f.is, here)
+      module _ (nodes : List (List ℕ)) (e : nodes ≡ first_chunks 2 (length ws / 2) ws) where
+        abbrev own_at : ℕ
+        own_at = own_conditions (get_or (get_or nodes i []) 0 0) (get_or (get_or nodes i []) 1 0)
 
-      pub one_found : (r : ℕ) → r ≡ max found (own_conditions (get_or ws (2 * i) 0) (get_or ws (2 * i + 1) 0)) → Finding ws r (i + 1)
-      one_found r e = record { is = omega (arith, f.is, here) }
+        own_is : own_at ≡ own_conditions (get_or ws (2 * i) 0) (get_or ws (2 * i + 1) 0)
+        own_is =
+            let n : get_or nodes i [] ≡ take 2 (drop (2 * i) ws) = ap (λ (ns : List (List ℕ)). get_or ns i []) e ∙ chunk_at (length ws / 2) i ws l in
+            ap (λ (n : List ℕ). own_conditions (get_or n 0 0) (get_or n 1 0)) n ∙ ap₂ own_conditions
+            (get_or-take 2 (drop (2 * i) ws) 0 0 (omega arith) ∙ get_or-drop (2 * i) ws 0 0 ∙ ap (λ (j : ℕ). get_or ws j 0) (let z : 2 * i + 0 ≡ 2 * i = omega arith in z))
+            (get_or-take 2 (drop (2 * i) ws) 1 0 (omega arith) ∙ get_or-drop (2 * i) ws 1 0)
+
+        pub own_small : own_at ≤ 4294967296
+        own_small = omega (arith, f.is, here, own_is)
+
+        pub one_found : (r : ℕ) → r ≡ max found own_at → Finding ws r (i + 1)
+        one_found r g = record { is = omega (arith, f.is, here, own_is) }
 
     pub all_found : length ws / 2 ≤ i → found ≡ highest ws
     all_found l = omega (arith, f.is, highest_end ws (2 * i) (omega arith))

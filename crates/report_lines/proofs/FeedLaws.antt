@@ -1,138 +1,90 @@
--- Chunks, and the end of the input. Assumes nothing.
-use mathlib.Core.Path.{◌≡◌, refl, sym, ap, ap₂, subst, ◌∙◌}
-use mathlib.Core.Bool.{Bool, true, false, not}
+-- Lines, chunks, and the end of the input. Assumes nothing.
+use mathlib.Core.Path.{◌≡◌, refl, sym, ap, subst, ◌∙◌}
+use mathlib.Core.Bool.{Bool, true, false, not, false≢true}
 use mathlib.Core.List.{List, [], ◌∷◌, ◌++◌}
-use Prim.Native.Nat.{ℕ, ◌+◌, ◌-◌, ◌≤◌, ◌<◌, ◌^◌}
+use Prim.Native.Nat.{ℕ, ◌+◌, ◌-◌, ◌≤◌, ◌<◌}
 use native.Mathlib.Omega.{arith}
 use mir.Syntax.{w64}
 use mir.Val.{Fits}
-use lib.ListN.{length, take, drop, length-append, length-drop, length-take}
-use lib.Seq.{take_at, length-take-le}
-use borrow.Author.Tests.{not-true, not-false}
+use lib.ListN.{length, take}
+use lib.Seq.{length-take-le}
+use lib.Dec.{leb}
+use borrow.Author.Tests.{not-true, not-false, leb-true, leb-false}
 use borrow.Rule.Slice.PartMut.{put_mid}
 use Rattle.expr.specs.Parts.{tail, Laid}
 use Rattle.expr.specs.TailLaws.{tail_drop, length_tail}
-use Rattle.expr.specs.LentLaws.{laid_length, laid_on}
+use Rattle.expr.specs.Lent.{over}
 use Rattle.lines.specs.Lines.{last_line, lines_from}
 use Rattle.report_lines.specs.declared.Totals.{Totals}
 use Rattle.report_lines.specs.declared.State.{State}
-use Rattle.report_lines.specs.declared.Step.{Step}
-use Rattle.report_lines.specs.Report.{outcome_of, text_of, plus, totals_of, closing}
+use Rattle.report_lines.specs.Report.{outcome_of, text_of, closing}
 use Rattle.report_lines.specs.Steps.{rest_of, sound_totals, ready, Lent, Advances, FeedsIf, Feeds, FinishesIf, Finishes}
 use Rattle.report_lines.specs.ReportLaws.{rest_none, rest_full}
-use Rattle.report_lines.specs.StepsLaws.{IsReady, ready_open, no_step, step_on}
-use Rattle.report_lines.specs.Promises.{Printed, Feedable, Turned, FeedsOn, FedOn, Fed, last_text, Finished}
-use Rattle.report_lines.proofs.ReadyLaws.{sound_open, SoundPlaces, places_open, places_shut}
+use Rattle.report_lines.specs.StepsLaws.{IsReady, ready_open, step_on}
+use Rattle.report_lines.specs.Promises.{Printed, is_open, Adds, Prints, PrintsLast, Goes, state_of}
+use Rattle.report_lines.proofs.ReadyLaws.{sound_open, SoundPlaces, places_open, open_lines, open_room, open_shut}
+use Rattle.report_lines.proofs.AddsLaws.{adds_none, adds_part, adds_long, adds_front, adds_on}
 use Rattle.report_lines.proofs.TextLaws.{closing_most}
 use Rattle.report_lines.proofs.StepLaws.{rest_line, small, sound_next}
 
--- after some turns: what they have read and printed
-pub record Feeding (s : State) (line chunk before : List ℕ) (t : State) (line' after : List ℕ) (used put : ℕ) : Type 0 where
-  pub advances : Advances s line chunk used (take put after) t line'
-  pub laid : Laid before after (take put after)
-  pub put_most : put ≤ length before
-  pub out_long : length after ≡ length before
+-- ---- a line
 
-module _ (s : State) (line chunk before : List ℕ) (e : Feedable s line before) where
-  pub none_fed : Feeding s line chunk before s line before 0 0
-  none_fed = record {
-    advances = no_step s line chunk 1024 4096 (length before) (record {
-      sound = e.sound;
-      have_most = e.have_most;
-      room = places_shut (length line) 1024 4096 (length before) (record { line_is = e.line_is; some_words = omega arith; some_work = omega arith; some_out = e.room });
-    });
-    laid = record { is = refl };
-    put_most = omega arith;
-    out_long = refl;
+module _ (lines put : ℕ) (out : List ℕ) (opens : is_open lines (length out - put) ≡ true) where
+  pub line_before : lines < 65535
+  line_before = open_lines lines (length out - put) opens
+
+  pub line_room : 9321 ≤ length (tail put out)
+  line_room = omega (arith, open_room lines (length out - put) opens, length_tail put out)
+
+module _ (t : Totals) (put : ℕ) (out line rest : List ℕ) (k : ℕ) (t' : Totals) (sound : sound_totals t ≡ true) (opens : is_open t.lines (length out - put) ≡ true)
+    (p : Printed (outcome_of line) t (tail put out) rest k t') where
+  line_fits : put + k ≤ length out
+  line_fits = omega (arith, open_room t.lines (length out - put) opens, p.put_is, (small line).text_most (t.lines + 1))
+
+  pub line_sound : sound_totals t' ≡ true
+  line_sound = ap sound_totals p.totals_is ∙ sound_next t line sound (line_before t.lines put out opens)
+
+  pub line_prints : Prints (outcome_of line) t put out t' (put + k) (put_mid put (length out - put) out rest)
+  line_prints = record { adds = adds_part put out rest (text_of (t.lines + 1) (outcome_of line)) k p.text p.put_is line_fits; totals_is = p.totals_is }
+
+  pub line_count : length out < 18446744073709551616 → Fits w64 (put + k)
+  line_count h = omega (arith, line_fits)
+
+  pub line_inside : put + k ≤ length (put_mid put (length out - put) out rest)
+  line_inside = omega (arith, line_fits, adds_long (text_of (t.lines + 1) (outcome_of line)) put out (put + k) (put_mid put (length out - put) out rest) line_prints.adds)
+
+pub ruleset printing = (line_before, line_room, line_count, line_inside, line_sound, line_prints)
+
+-- ---- lines of a chunk
+
+module _ (t : Totals) (have : ℕ) (line chunk : List ℕ) (put : ℕ) (before : List ℕ) where
+  pub none_fed : sound_totals t ≡ true → have ≤ length line → put ≤ length before → Goes (state_of t have) line chunk put before 0 (state_of t have) line put before
+  none_fed s h l = record {
+    text = [];
+    advances = record { same = λ more. refl; used_most = omega arith; sound = s; have_most = h; line_length = refl };
+    adds = adds_none put before l;
   }
 
-  module _ (t : State) (line' after : List ℕ) (used put : ℕ) (f : Feeding s line chunk before t line' after used put) where
-    pub line_long : length line' ≡ length line
-    line_long = f.advances.line_length
+module _ (s : State) (line chunk : List ℕ) (put : ℕ) (before : List ℕ) (at : ℕ) (s' : State) (line' : List ℕ) (put' : ℕ) (after : List ℕ) (f : Goes s line chunk put before at s' line' put' after) where
+  pub more_fed : (used : ℕ) (s'' : State) (line'' : List ℕ) (put'' : ℕ) (last : List ℕ) → Goes s' line' (tail at chunk) put' after used s'' line'' put'' last
+      → Goes s line chunk put before (at + used) s'' line'' put'' last
+  more_fed used s'' line'' put'' last g = record {
+    text = f.text ++ g.text;
+    advances = step_on f.advances (subst (λ (l : List ℕ). Advances s' line' l used g.text s'' line'') (tail_drop at chunk) g.advances);
+    adds = adds_on f.text put before put' after f.adds g.text put'' last g.adds;
+  }
 
-    pub out_same : length after ≡ length before
-    out_same = f.out_long
+pub ruleset feeding = (none_fed, more_fed)
 
-    pub out_small : length before < 2 ^ 63 → length after < 2 ^ 63
-    out_small h = omega (arith, f.out_long)
+-- ---- the calls
 
-    pub put_inside : put ≤ length after
-    put_inside = omega (arith, f.put_most, f.out_long)
-
-    front_long : length (take put after) ≡ put
-    front_long = length-take-le put after put_inside
-
-    before_last : (t.totals.lines ≡ 65535 → ⊥) → t.totals.lines < 65535
-    before_last n = omega (arith, n, (sound_open t.totals f.advances.sound).some_lines)
-
-    on : used < length chunk → (t.totals.lines ≡ 65535 → ⊥) → 9400 ≤ length after - put → FeedsOn (record { used = used; put = put; state = t }) chunk line' after
-    on h n m = record {
-      turnable = record {
-        sound = f.advances.sound;
-        before_last = before_last n;
-        have_most = f.advances.have_most;
-        line_is = line_long ∙ e.line_is;
-        room = omega (arith, length_tail put after);
-        some = omega (arith, length_tail used chunk);
-      };
-      used_most = omega arith;
-      put_most = put_inside;
-    }
-
-    module _ (line'' rest : List ℕ) (r : Step) (g : Turned t line' (tail used chunk) (tail put after) r line'' rest) where
-      out : List ℕ
-      out = put_mid put (length after - put) after rest
-
-      all_laid : Laid before out (take put after ++ take r.put rest)
-      unfolding out
-      all_laid = laid_on before after (take put after) f.laid put (sym front_long) rest (take r.put rest) g.laid
-
-      one_fed : used < length chunk → 9400 ≤ length after - put → Feeding s line chunk before r.state line'' (put_mid put (length after - put) after rest) (used + r.used) (put + r.put)
-      unfolding out
-      one_fed h m =
-          let o : length rest ≡ length (tail put after) =
-          omega (arith, ap length g.laid.is, length-append (take r.put rest) (drop (length (take r.put rest)) (tail put after)), length-drop (length (take r.put rest)) (tail put after), length-take r.put rest, g.put_most, length_tail put after) in
-          let n : length (take r.put rest) ≡ r.put = length-take-le r.put rest (omega (arith, g.put_most, length_tail put after)) in
-          let k : length (take put after ++ take r.put rest) ≡ put + r.put = omega (arith, length-append (take put after) (take r.put rest), front_long) in
-          let w : take (put + r.put) out ≡ take put after ++ take r.put rest =
-          ap (take (put + r.put)) all_laid.is ∙ take_at (take put after ++ take r.put rest) (drop (length (take put after ++ take r.put rest)) before) (put + r.put) k in
-          record {
-            advances = subst (λ (x : List ℕ). Advances s line chunk (used + r.used) x r.state line'') (sym w) (step_on f.advances (subst (λ (l : List ℕ). Advances t line' l r.used (take r.put rest) r.state line'') (tail_drop used chunk) g.advances));
-            laid = subst (Laid before out) (sym w) all_laid;
-            put_most = omega (arith, g.put_most, f.out_long);
-            out_long = laid_length before out (take put after ++ take r.put rest) all_laid (omega (arith, g.put_most, f.out_long));
-          }
-
--- the same, where used, put and state are together in a step
-module _ (s : State) (line chunk before : List ℕ) (e : Feedable s line before) (at : Step) (line' after : List ℕ) (f : Feeding s line chunk before at.state line' after at.used at.put) where
-  pub feeds_on : at.used < length chunk → (at.state.totals.lines ≡ 65535 → ⊥) → 9400 ≤ length after - at.put → FeedsOn at chunk line' after
-  feeds_on = on s line chunk before e at.state line' after at.used at.put f
-
-  fed : (at.used < length chunk → at.state.totals.lines < 65535 → length before < at.put + 9400) → Fed s line chunk before at line' after
-  fed g = record { advances = f.advances; laid = f.laid; put_most = f.put_most; stops = g }
-
-  pub fed_full : at.state.totals.lines ≡ 65535 → Fed s line chunk before at line' after
-  fed_full n = fed (λ h l. omega arith)
-
-  pub fed_room : length after - at.put < 9400 → Fed s line chunk before at line' after
-  fed_room m = fed (λ h l. omega (arith, f.out_long, f.put_most))
-
-  pub fed_all : length chunk ≤ at.used → Fed s line chunk before at line' after
-  fed_all m = fed (λ h l. omega arith)
-
-  pub more_fed : (r : Step) (line'' out : List ℕ) → FedOn at chunk line' after r line'' out → at.used < length chunk → 9400 ≤ length after - at.put
-      → Feeding s line chunk before r.state line'' out r.used r.put
-  more_fed r line'' out g h m =
-      subst (λ (x : Step). Feeding s line chunk before x.state line'' out x.used x.put) (sym g.is)
-      (subst (λ (o : List ℕ). Feeding s line chunk before g.turn.state line'' o (at.used + g.turn.used) (at.put + g.turn.put)) (sym g.out_is)
-      (one_fed s line chunk before e at.state line' after at.used at.put f line'' g.rest g.turn g.turned h m))
-
-pub fed_less : (at r : Step) (chunk line line' before after : List ℕ) → FedOn at chunk line before r line' after → at.used < length chunk → length chunk - r.used < length chunk - at.used
-fed_less at r chunk line line' before after g h = omega (arith, ap (λ (x : Step). x.used) g.is, g.turned.used_least)
-
-pub ruleset feeding = (none_fed, line_long, out_same, out_small, put_inside, feeds_on, fed_full, fed_room, fed_all, more_fed, fed_less)
-
--- ---- `feed`
+-- where the printer is closed before line 65,535, the output may have no room for another line
+closed : (lines put : ℕ) (before after : List ℕ) → length after ≡ length before → lines < 65535 → is_open lines (length after - put) ≡ false → length before < put + 9400
+closed lines put before after e h f = go (leb 9400 (length after - put)) refl
+  where
+    go : (b : Bool) → leb 9400 (length after - put) ≡ b → length before < put + 9400
+    go true g = absurd (false≢true (sym f ∙ open_shut lines (length after - put) h (leb-true 9400 (length after - put) g)))
+    go false g = omega (arith, leb-false 9400 (length after - put) g)
 
 module _ (s : State) (line words work out : List ℕ) (b : Bool) (e : b ≡ ready s (length line) (length words) (length work) (length out)) where
   abbrev lent : Lent
@@ -148,8 +100,17 @@ module _ (s : State) (line words work out : List ℕ) (b : Bool) (e : b ≡ read
     room : SoundPlaces (length line) (length words) (length work) (length out)
     room = places_open (length line) (length words) (length work) (length out) opened.room
 
-    pub feedable : Feedable s line out
-    feedable = record { sound = opened.sound; have_most = opened.have_most; line_is = room.line_is; room = room.some_out }
+    pub ready_sound : sound_totals s.totals ≡ true
+    ready_sound = opened.sound
+
+    pub ready_have : s.have ≤ length line
+    ready_have = opened.have_most
+
+    pub ready_taken : s.have ≡ length (take s.have line)
+    ready_taken = sym (length-take-le s.have line opened.have_most)
+
+    pub ready_line : length line ≡ 9219
+    ready_line = room.line_is
 
     pub words_room : 1024 ≤ length words
     words_room = room.some_words
@@ -157,29 +118,55 @@ module _ (s : State) (line words work out : List ℕ) (b : Bool) (e : b ≡ read
     pub work_room : 4096 ≤ length work
     work_room = room.some_work
 
+    pub out_room : 0 + 9400 ≤ length out
+    out_room = room.some_out
+
+    goes : (chunk : List ℕ) (used : ℕ) (s' : State) (line' : List ℕ) (put : ℕ) (words' work' out' : List ℕ) → Goes s line chunk 0 out used s' line' put out'
+        → (used < length chunk → is_open s'.totals.lines (length out' - put) ≡ false)
+        → Feeds s chunk lent (record { used = used; put = put; state = s' }) (record { line = line'; words = words'; work = work'; out = out' })
+    unfolding FeedsIf
+    goes chunk used s' line' put words' work' out' g h =
+        let front : g.text ≡ take put out' = sym (adds_front g.text 0 out put out' g.adds) in
+        record {
+          is =
+              subst (λ (c : Bool). FeedsIf c s chunk lent (record { used = used; put = put; state = s' }) (record { line = line'; words = words'; work = work'; out = out' })) (sym (ready_yes f)) (
+                subst (λ (x : List ℕ). Advances s line chunk used x s' line') front g.advances,
+                g.adds.laid.is ∙ ap (λ (x : List ℕ). over x out) front,
+                g.adds.fits,
+                λ l m. closed s'.totals.lines put out out' (adds_long g.text 0 out put out' g.adds) m (h l),
+              );
+        }
+
+    pub feeds : (chunk : List ℕ) (used : ℕ) (s' : State) (line' kept-line : List ℕ) (put : ℕ) (words' work' out' end : List ℕ) → Goes s line chunk 0 out used s' kept-line put end
+        → (used < length chunk → is_open s'.totals.lines (length end - put) ≡ false) → line' ≡ kept-line → out' ≡ end
+        → Feeds s chunk lent (record { used = used; put = put; state = s' }) (record { line = line'; words = words'; work = work'; out = out' })
+    feeds chunk used s' line' kept-line put words' work' out' end g h l o =
+        subst (λ (x : List ℕ). Feeds s chunk lent (record { used = used; put = put; state = s' }) (record { line = x; words = words'; work = work'; out = out' })) (sym l)
+        (subst (λ (x : List ℕ). Feeds s chunk lent (record { used = used; put = put; state = s' }) (record { line = kept-line; words = words'; work = work'; out = x })) (sym o)
+        (goes chunk used s' kept-line put words' work' end g h))
+
+    pub finishes : (t' : Totals) (put put' : ℕ) (mid end words' work' out' : List ℕ) → PrintsLast (take s.have line) s.totals 0 out t' put mid → Adds (closing t') put mid put' end → out' ≡ end
+        → Finishes s lent put' (record { line = line; words = words'; work = work'; out = out' })
+    unfolding FinishesIf
+    finishes t' put put' mid end words' work' out' p a o =
+        let all = adds_on p.text 0 out put mid p.adds (closing t') put' out' (subst (Adds (closing t') put mid put') (sym o) a) in
+        record {
+          is =
+              subst (λ (c : Bool). FinishesIf c s lent put' (record { line = line; words = words'; work = work'; out = out' })) (sym (ready_yes f))
+              (all.laid.is ∙ ap (λ (x : List ℕ). over x out) (sym p.is), (let n : put' ≡ length (p.text ++ closing t') = omega (arith, all.put_is) in n ∙ ap length (sym p.is)));
+        }
+
   pub not_fed : not b ≡ true → (chunk : List ℕ) → Feeds s chunk lent (record { used = 0; put = 0; state = s }) lent
   unfolding FeedsIf
   not_fed f chunk = record { is = subst (λ (c : Bool). FeedsIf c s chunk lent (record { used = 0; put = 0; state = s }) lent) (sym (not-true b f) ∙ e) (refl, refl) }
-
-  pub feeds : not b ≡ false → (chunk : List ℕ) (r : Step) (line' words' work' out' : List ℕ) → Fed s line chunk out r line' out' → Feeds s chunk lent r (record { line = line'; words = words'; work = work'; out = out' })
-  unfolding FeedsIf
-  feeds f chunk r line' words' work' out' g = record {
-    is = subst (λ (c : Bool). FeedsIf c s chunk lent r (record { line = line'; words = words'; work = work'; out = out' })) (sym (ready_yes f)) (g.advances, g.laid.is, g.put_most, g.stops);
-  }
 
   pub not_finished : not b ≡ true → Finishes s lent 0 lent
   unfolding FinishesIf
   not_finished f = record { is = subst (λ (c : Bool). FinishesIf c s lent 0 lent) (sym (not-true b f) ∙ e) (refl, refl) }
 
-  pub finishes : not b ≡ false → (r : ℕ) (words' work' out' : List ℕ) → Finished s line out r out' → Finishes s lent r (record { line = line; words = words'; work = work'; out = out' })
-  unfolding FinishesIf
-  finishes f r words' work' out' g = record {
-    is = subst (λ (c : Bool). FinishesIf c s lent r (record { line = line; words = words'; work = work'; out = out' })) (sym (ready_yes f)) (g.laid.is, g.count);
-  }
+pub ruleset calls = (ready_sound, ready_have, ready_taken, ready_line, words_room, work_room, out_room, feeds, finishes, not_fed, not_finished)
 
-pub ruleset calls = (feedable, words_room, work_room, not_fed, feeds, not_finished, finishes)
-
--- ---- `finish`
+-- ---- the end of the input
 
 -- the last line has no 0a
 last_line_lem : (p : List ℕ) → 0 < length p → lines_from p [] ≡ p ∷ lines_from [] []
@@ -187,72 +174,48 @@ unfolding lines_from last_line
 last_line_lem [] h = absurd (omega arith)
 last_line_lem (b ∷ p) h = refl
 
-module _ (t : Totals) (line : List ℕ) (sound : sound_totals t ≡ true) (more : t.lines < 65535) (before : List ℕ) (room : 9400 ≤ length before)
-    (mid : List ℕ) (k : ℕ) (t' : Totals) (p : Printed (outcome_of line) t before mid k t') where
-  abbrev text : List ℕ
-  text = text_of (t.lines + 1) (outcome_of line)
+module _ (line : List ℕ) (t : Totals) (put : ℕ) (out : List ℕ) (room : put + 9400 ≤ length out) where
+  last_none : closing t ≡ rest_of t line [] → PrintsLast line t put out t put out
+  last_none e = record { text = []; adds = adds_none put out (omega arith); is = sym e; room = omega arith }
 
-  mid_long : length mid ≡ length before
-  mid_long = laid_length before mid text p.text (omega (arith, (small line).text_most (t.lines + 1)))
+  pub last_empty : length line ≡ 0 → PrintsLast line t put out t put out
+  last_empty h = last_none (sym (ap (λ (l : List ℕ). rest_of t l []) (nothing line h) ∙ rest_none t))
+    where
+      nothing : (l : List ℕ) → length l ≡ 0 → l ≡ []
+      nothing [] g = refl
+      nothing (b ∷ l) g = absurd (omega arith)
 
-  pub last_inside : k ≤ length mid
-  last_inside = omega (arith, mid_long, p.put_is, (small line).text_most (t.lines + 1))
+  pub last_full : t.lines ≡ 65535 → PrintsLast line t put out t put out
+  last_full h = last_none (sym (rest_full t line [] h))
 
-  pub last_sound : sound_totals t' ≡ true
-  last_sound = ap sound_totals p.totals_is ∙ sound_next t line sound more
+  module _ (sound : sound_totals t ≡ true) (n : t.lines ≡ 65535 → ⊥) where
+    pub last_before : t.lines < 65535
+    last_before = omega (arith, n, (sound_open t sound).some_lines)
 
-  pub last_room : 53 ≤ length (tail k mid)
-  last_room = omega (arith, length_tail k mid, mid_long, p.put_is, (small line).text_most (t.lines + 1))
+    pub last_open : is_open t.lines (length out - put) ≡ true
+    last_open = open_shut t.lines (length out - put) last_before (omega arith)
 
-  module _ (m : ℕ) (z : m ≡ length (closing t')) where
-    pub last_fits : Fits w64 (k + m)
-    last_fits = omega (arith, p.put_is, (small line).text_most (t.lines + 1), closing_most t')
+    pub last_line_put : (t' : Totals) (put' : ℕ) (out' : List ℕ) → Prints (outcome_of line) t put out t' put' out' → 0 < length line → PrintsLast line t put out t' put' out'
+    last_line_put t' put' out' p some = record {
+      text = text_of (t.lines + 1) (outcome_of line);
+      adds = p.adds;
+      is =
+          rest_line t line [] line [] last_before (last_line_lem line some)
+          ∙ ap (λ (u : Totals). text_of (t.lines + 1) (outcome_of line) ++ rest_of u [] []) (sym p.totals_is)
+          ∙ ap (λ (x : List ℕ). text_of (t.lines + 1) (outcome_of line) ++ x) (rest_none t');
+      room = omega (arith, p.adds.put_is, (small line).text_most (t.lines + 1));
+    }
 
-    pub last_count : k + m ≡ length (last_text t line)
-    unfolding last_text
-    last_count =
-        ap₂ (λ (x y : ℕ). x + y) p.put_is z ∙ sym (length-append text (closing t')) ∙ ap (λ (u : Totals). length (text ++ closing u)) p.totals_is
+pub ruleset ending = (last_before, last_open, last_line_put)
 
-    module _ (rest : List ℕ) (g : Laid (tail k mid) rest (closing t')) where
-      pub last_laid : Laid before (put_mid k (length mid - k) mid rest) (last_text t line)
-      unfolding last_text
-      last_laid =
-          subst (λ (u : Totals). Laid before (put_mid k (length mid - k) mid rest) (text ++ closing u)) p.totals_is
-          (laid_on before mid text p.text k p.put_is rest (closing t') g)
+module _ (t : Totals) (put : ℕ) (out rest : List ℕ) (k : ℕ) (room : put + 53 ≤ length out) (l : Laid (tail put out) rest (closing t)) (e : k ≡ length (closing t)) where
+  pub closing_fits : put + k ≤ length out
+  closing_fits = omega (arith, e, closing_most t)
 
-      pub last_long : length (put_mid k (length mid - k) mid rest) ≡ length before
-      last_long = laid_length before (put_mid k (length mid - k) mid rest) (last_text t line) last_laid
-          (omega (arith, last_count, p.put_is, (small line).text_most (t.lines + 1), closing_most t'))
+  pub closing_put : Adds (closing t) put out (put + k) (put_mid put (length out - put) out rest)
+  closing_put = adds_part put out rest (closing t) k l e closing_fits
 
-pub ruleset last_rules = (last_inside, last_sound, last_room, last_fits, last_count, last_laid, last_long)
+pub closing_room : (put : ℕ) (out : List ℕ) → put + 53 ≤ length out → 53 ≤ length (tail put out)
+closing_room put out h = omega (arith, length_tail put out)
 
-module _ (s : State) (line before : List ℕ) (e : Feedable s line before) where
-  pub have_taken : s.have ≡ length (take s.have line)
-  have_taken = sym (length-take-le s.have line e.have_most)
-
-  pub finish_closing : 53 ≤ length before
-  finish_closing = omega (arith, e.room)
-
-  pub finish_before : (s.totals.lines ≡ 65535 → ⊥) → s.totals.lines < 65535
-  finish_before n = omega (arith, n, (sound_open s.totals e.sound).some_lines)
-
-  module _ (r : ℕ) (after : List ℕ) where
-    finished : (text : List ℕ) → text ≡ rest_of s.totals (take s.have line) [] → Laid before after text → r ≡ length text → Finished s line before r after
-    finished text t l n = record { laid = subst (Laid before after) t l; count = n ∙ ap length t }
-
-    pub none_left : s.have ≡ 0 → Laid before after (closing s.totals) → r ≡ length (closing s.totals) → Finished s line before r after
-    none_left h = finished (closing s.totals) (sym (ap (λ (n : ℕ). rest_of s.totals (take n line) []) h ∙ rest_none s.totals))
-
-    pub lines_full : s.totals.lines ≡ 65535 → Laid before after (closing s.totals) → r ≡ length (closing s.totals) → Finished s line before r after
-    lines_full h = finished (closing s.totals) (sym (rest_full s.totals (take s.have line) [] h))
-
-    pub last_left : (s.have ≡ 0 → ⊥) → (s.totals.lines ≡ 65535 → ⊥) → Laid before after (last_text s.totals (take s.have line)) → r ≡ length (last_text s.totals (take s.have line)) → Finished s line before r after
-    unfolding last_text
-    last_left h n =
-        let l = take s.have line in
-        let some : 0 < length l = omega (arith, length-take-le s.have line e.have_most, h) in
-        finished (last_text s.totals l)
-        (ap (λ (x : List ℕ). text_of (s.totals.lines + 1) (outcome_of l) ++ x) (sym (rest_none (plus s.totals (totals_of (outcome_of l)))))
-        ∙ sym (rest_line s.totals l [] l [] (finish_before n) (last_line_lem l some)))
-
-pub ruleset finishing = (have_taken, finish_closing, finish_before, none_left, lines_full, last_left)
+pub ruleset shutting = (closing_fits, closing_put, closing_room)

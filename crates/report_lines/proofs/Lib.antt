@@ -1,5 +1,6 @@
 mod TextLaws
 mod ReadyLaws
+mod AddsLaws
 mod ConditionsLaws
 mod RanLaws
 mod PrintedLaws

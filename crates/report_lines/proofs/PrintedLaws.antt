@@ -10,7 +10,8 @@ use lib.Seq.{length-take-le}
 use lib.ListN.{length, take, length-append, length-take}
 use borrow.Rule.Slice.PartMut.{put_mid}
 use Rattle.std.specs.Prelude.{Option, None, Some, MatchOption, Result, Ok, Err}
-use Rattle.std.specs.Result.{IsOk, is_ok, result_ok}
+use Rattle.std.specs.Result.{IsOk, IsErr, IsErrAnd, MatchResult, is_ok, result_ok}
+use Rattle.report_lines.specs.declared.line.Accepted.{Accepted}
 use Rattle.expr.specs.declared.refusal.Reason.{Reason}
 use Rattle.expr.specs.declared.refusal.Refusal.{Refusal}
 use Rattle.expr.specs.Refusals.{reason_of}
@@ -103,16 +104,13 @@ pub ruleset accepting = (highest_small, before_fits, after_fits, done_printed)
 -- ---- either
 
 module _ (w : ℕ) (ws work : List ℕ) (x : Result ChainEnd Refusal) (o : Outcome Done) (g : Ran o w ws work (mapped end_numbers (outcome x))) where
-  refused_ran : (r : Refusal) → x ≡ Err r → o ≡ refused (reason_of r)
+  pub chain_down : (r : Refusal) → x ≡ Err r → o ≡ refused (reason_of r)
   unfolding Reaches
-  refused_ran r e = go o g.reaches
+  chain_down r e = go o g.reaches
     where
       go : (a : Outcome Done) → Reaches a w ws work (mapped end_numbers (outcome x)) → a ≡ refused (reason_of r)
       go (refused q) h = let z : q ≡ reason_of r = cc in ap (λ (y : Reason). refused y) z
       go (accepted d) (n, k, h, f, a, b, c, l) = absurd (let z : ◌≡◌ {A = ℕ} 0 1 = cc in omega arith)
-
-  pub chain_down : (r : Refusal) (t t' : Totals) (before after : List ℕ) (put : ℕ) → x ≡ Err r → Printed (refused (reason_of r)) t before after put t' → Printed o t before after put t'
-  chain_down r t t' before after put e p = subst (λ (a : Outcome Done). Printed a t before after put t') (sym (refused_ran r e)) p
 
   module _ (end : ChainEnd) (e : x ≡ Ok end) where
     record Ended : Type 0 where
@@ -158,8 +156,8 @@ module _ (w : ℕ) (ws work : List ℕ) (x : Result ChainEnd Refusal) (o : Outco
     pub end_short : length (take (2 * end.nodes) work) ≤ 1024
     end_short = omega (arith, length-take (2 * end.nodes) work, ended.few)
 
-    pub chain_done : (t t' : Totals) (before after : List ℕ) (put : ℕ) → Printed (accepted (done_by w ws (take (2 * end.nodes) work) end.rewrites)) t before after put t' → Printed o t before after put t'
-    chain_done t t' before after put p = subst (λ (a : Outcome Done). Printed a t before after put t') (sym ended.is) p
+    pub chain_done : o ≡ accepted (done_by w ws (take (2 * end.nodes) work) end.rewrites)
+    chain_done = ended.is
 
 pub ruleset chaining = (chain_down, end_fits, end_inside, end_taken, tree_whole, end_whole, end_short, chain_done)
 
@@ -171,11 +169,8 @@ module _ (line before words : List ℕ) (r : Result Frame Refusal) (d : ReadsLin
   unfolding outcome_of
   line_is p e = ap (λ o. o and_then chained) ((d.read room).is ∙ ap (λ (q : Option Frame). line_outcome q words) e)
 
-  pub line_down : (e : Refusal) → r ≡ Err e → (t t' : Totals) (out after : List ℕ) (put : ℕ) → Printed (refused (reason_of e)) t out after put t' → Printed (outcome_of line) t out after put t'
-  line_down e f t t' out after put p =
-      let same : ◌≡◌ {A = Outcome Done} (refused (reason_of e)) (outcome_of line) =
-      ap (λ (x : Refusal). refused (reason_of x)) (d.none room e f) ∙ sym (line_is None (ap result_ok f)) in
-      subst (λ (a : Outcome Done). Printed a t out after put t') same p
+  pub line_down : (e : Refusal) → r ≡ Err e → outcome_of line ≡ refused (reason_of e)
+  line_down e f = line_is None (ap result_ok f) ∙ ap (λ (x : Refusal). refused (reason_of x)) (sym (d.none room e f))
 
   module _ (f : Frame) (e : r ≡ Ok f) where
     few : f.nodes ≤ 512
@@ -190,8 +185,14 @@ module _ (line before words : List ℕ) (r : Result Frame Refusal) (d : ReadsLin
     pub count_inside : 1024 ≤ length words → 2 * f.nodes ≤ length words
     count_inside h = omega (arith, few)
 
-    pub line_chained : (t t' : Totals) (out after : List ℕ) (put : ℕ) → Printed (chained (f.width, take (2 * f.nodes) words)) t out after put t' → Printed (outcome_of line) t out after put t'
-    line_chained t t' out after put p = subst (λ (a : Outcome Done). Printed a t out after put t') (sym (line_is (Some f) (ap result_ok e))) p
+    pub line_chained : (o : Outcome Done) → chained (f.width, take (2 * f.nodes) words) ≡ o → outcome_of line ≡ o
+    line_chained o g = line_is (Some f) (ap result_ok e) ∙ g
+
+-- an error that is handed on
+pub handed_on : (o : Outcome Done) (e : Refusal) (r : Result Accepted Refusal) → IsErr r × IsErrAnd r (λ q. q ≡ e) → o ≡ refused (reason_of e)
+    → MatchResult r (λ a. o ≡ accepted (done_by a.width a.words.now a.end.now a.rewrites)) (λ q. o ≡ refused (reason_of q))
+handed_on o e (Err q) h f = f ∙ ap (λ (x : Refusal). refused (reason_of x)) (sym h.1)
+handed_on o e (Ok a) h f = absurd (let z : ◌≡◌ {A = ℕ} 0 1 = cc in omega arith)
 
 pub ruleset reading = (line_down, count_fits, count_inside, count_few, line_chained)
 

@@ -6,7 +6,7 @@ use Prim.Native.Nat.{ℕ, ◌+◌, ◌-◌, ◌*◌, ◌≤◌}
 use native.Mathlib.Omega.{arith}
 use lib.Dec.{ltb}
 use lib.ListN.{length, take, drop, replicate, length-append, length-take, length-drop}
-use lib.Seq.{take_at}
+use lib.Seq.{take_at, length-take-le}
 use borrow.Rule.Slice.PartMut.{put_mid}
 use Rattle.std.specs.Prelude.{if◌then◌else◌, Result, Ok, Err}
 use Rattle.expr.specs.declared.refusal.Reason.{Reason}
@@ -162,4 +162,11 @@ module _ (ws : List ℕ) (w : ℕ) (work after : List ℕ) where
   chain_whole (Ok e) g h = chain_ended ws w 4096 work after (Ok e) g (omega arith) e.nodes e.rewrites refl
   chain_whole (Err r) g h = all_refused ws w 4096 work after (Err r) g r refl (omega (arith, length-take 4096 work, length-drop 0 work))
 
-pub ruleset running = (chain_short, chain_refused, chain_whole)
+  -- the work is as long as it was where the chain is run in a part of it
+  pub still_long : (k : ℕ) → length after ≡ length (take k work) → 4096 ≤ length work → 4096 ≤ length (after ++ drop k work)
+  still_long k e h = omega (arith, length-append after (drop k work), length-take k work, length-drop k work)
+
+  pub still_taken : (k : ℕ) → length after ≡ length (take k work) → 4096 ≤ length work → 4096 ≡ length (take 4096 (after ++ drop k work))
+  still_taken k e h = sym (length-take-le 4096 (after ++ drop k work) (still_long k e h))
+
+pub ruleset running = (chain_short, chain_refused, chain_whole, still_long, still_taken)

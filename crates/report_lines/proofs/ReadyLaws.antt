@@ -1,12 +1,13 @@
 -- The tests of a state and of the lent places. Assumes nothing.
 use mathlib.Core.Path.{◌≡◌}
 use mathlib.Core.Bool.{true, ◌&&◌}
-use Prim.Native.Nat.{ℕ, ◌*◌, ◌≤◌}
-use lib.Dec.{leb, eqb}
-use borrow.Author.Tests.{leb-true, eqb-true, le-leb}
+use Prim.Native.Nat.{ℕ, ◌*◌, ◌≤◌, ◌<◌}
+use lib.Dec.{leb, ltb, eqb}
+use borrow.Author.Tests.{leb-true, ltb-true, eqb-true, le-leb, lt-ltb}
 use Rattle.arith.specs.ChoiceLaws.{both_true}
 use Rattle.report_lines.specs.declared.Totals.{Totals}
 use Rattle.report_lines.specs.Steps.{sound_totals, sound_room}
+use Rattle.report_lines.specs.Promises.{is_open}
 
 -- what the test of the sums says
 pub record SoundSums (t : Totals) : Type 0 where
@@ -55,6 +56,15 @@ places_open line words work out s =
       some_out = leb-true 9400 out r.1;
     }
 
-pub places_shut : (line words work out : ℕ) → SoundPlaces line words work out → sound_room line words work out ≡ true
-unfolding sound_room
-places_shut line words work out s = rw s.line_is (simp (le-leb 1024 words s.some_words, le-leb 4096 work s.some_work, le-leb 9400 out s.some_out))
+-- what the test of the printer says
+pub open_lines : (lines room : ℕ) → is_open lines room ≡ true → lines < 65535
+unfolding is_open
+open_lines lines room e = ltb-true lines 65535 (both_true (ltb lines 65535) (leb 9400 room) e).0
+
+pub open_room : (lines room : ℕ) → is_open lines room ≡ true → 9400 ≤ room
+unfolding is_open
+open_room lines room e = leb-true 9400 room (both_true (ltb lines 65535) (leb 9400 room) e).1
+
+pub open_shut : (lines room : ℕ) → lines < 65535 → 9400 ≤ room → is_open lines room ≡ true
+unfolding is_open
+open_shut lines room h k = simp (lt-ltb lines 65535 h, le-leb 9400 room k)

@@ -1,6 +1,6 @@
 -- A step: what is left to be printed before and after it. Assumes nothing.
 use mathlib.Core.Path.{◌≡◌, refl, sym, ap, ap₂, subst, ◌∙◌}
-use mathlib.Core.Bool.{true, false}
+use mathlib.Core.Bool.{Bool, true, false}
 use mathlib.Core.List.{List, [], ◌∷◌, ◌++◌, map, append_assoc, append-nil}
 use Prim.Native.Nat.{ℕ, suc, ◌+◌, ◌-◌, ◌≤◌, ◌<◌}
 use native.Mathlib.Omega.{arith}
@@ -10,7 +10,6 @@ use Rattle.expr.specs.declared.refusal.Reason.{Reason}
 use Rattle.expr.specs.Outcome.{Outcome, refused, accepted, mapped, ◌and_then◌}
 use Rattle.expr.specs.Expr.{Expr, nodes}
 use Rattle.expr.specs.ParseLaws.{parse_sound}
-use Rattle.expr.specs.Parts.{Laid}
 use Rattle.expr.specs.Lent.{over}
 use Rattle.value.specs.ValueLaws.{one_width_sound}
 use Rattle.rewriting.specs.Chain.{last_of, trees_of}
@@ -22,13 +21,12 @@ use Rattle.lines.specs.declared.Taken.{Taken}
 use Rattle.lines.specs.Lines.{lines_from, up_to, has_end, used_of, kept}
 use Rattle.lines.specs.LinesLaws.{front_is, ended_used, ended_fits, going_used, inside_ended, lines_ended, lines_going, clip_first}
 use Rattle.report_lines.specs.declared.Totals.{Totals}
-use Rattle.report_lines.specs.declared.State.{State}
-use Rattle.report_lines.specs.declared.Step.{Step}
 use Rattle.report_lines.specs.Report.{Done, done, chained, outcome_of, fields, row_of, text_of, texts_of, refused_lines, nodes_before, nodes_after, plus, totals_of, sums, closing}
 use Rattle.report_lines.specs.Steps.{outcomes_left, rest_of, sound_totals}
 use Rattle.report_lines.specs.ReportLaws.{plus_plus}
-use Rattle.report_lines.specs.Promises.{PrintedStep, Turnable, Turned}
-use Rattle.report_lines.proofs.ReadyLaws.{sound_open, sound_shut}
+use Rattle.report_lines.specs.Promises.{is_open, Prints, Goes, state_of}
+use Rattle.report_lines.proofs.ReadyLaws.{sound_open, sound_shut, open_lines}
+use Rattle.report_lines.proofs.AddsLaws.{adds_none}
 use Rattle.report_lines.proofs.RanLaws.{admitted_tree}
 use Rattle.report_lines.proofs.TextLaws.{fields_most}
 
@@ -120,44 +118,33 @@ sound_next t l s h =
 
 -- ---- `turn`
 
--- what the tests say of the lent places
-module _ (s : State) (line chunk : List ℕ) (out : ℕ) (u : Turnable s line chunk out) where
-  -- a line is printed and the state is after it
-  module _ (l line' before after : List ℕ) (used : ℕ) (r : Step) (g : PrintedStep (outcome_of l) s.totals used before after r) (least : 1 ≤ used) (most : used ≤ length chunk)
-      (e : (more : List ℕ) → lines_from (take s.have line) (chunk ++ more) ≡ l ∷ lines_from [] (drop used chunk ++ more)) (long : length line' ≡ length line) where
-    text : List ℕ
-    text = text_of (s.totals.lines + 1) (outcome_of l)
-
-    front : take r.put after ≡ text
-    unfolding text
-    front = ap (take r.put) g.printed.text.is ∙ take_at text (drop (length text) before) r.put (sym g.printed.put_is)
-
-    turned : Turned s line chunk before r line' after
-    unfolding text
-    turned = record {
+module _ (t : Totals) (have : ℕ) (line chunk : List ℕ) (sound : sound_totals t ≡ true) (room : ℕ) (opens : is_open t.lines room ≡ true) (put : ℕ) (before : List ℕ) where
+  -- a line is printed, and nothing of the next one is kept
+  module _ (l line' : List ℕ) (t' : Totals) (put' : ℕ) (after : List ℕ) (used have' : ℕ) (g : Prints (outcome_of l) t put before t' put' after) (z : have' ≡ 0) (most : used ≤ length chunk)
+      (e : (more : List ℕ) → lines_from (take have line) (chunk ++ more) ≡ l ∷ lines_from [] (drop used chunk ++ more)) (long : length line' ≡ length line) where
+    printed : Goes (state_of t have) line chunk put before used (state_of t' have') line' put' after
+    printed = record {
+      text = text_of (t.lines + 1) (outcome_of l);
       advances = record {
         same = λ more.
-            rest_line s.totals (take s.have line) (chunk ++ more) l (drop used chunk ++ more) u.before_last (e more)
-            ∙ ap₂ (λ (x : List ℕ) (t : Totals). x ++ rest_of t [] (drop used chunk ++ more)) (sym front) (sym g.printed.totals_is)
-            ∙ ap₂ (λ (n m : ℕ). take r.put after ++ rest_of r.state.totals (take n line') (drop m chunk ++ more)) (sym g.have_is) (sym g.used_is);
-        used_most = omega (arith, g.used_is);
-        sound = ap sound_totals g.printed.totals_is ∙ sound_next s.totals l u.sound u.before_last;
-        have_most = omega (arith, g.have_is);
+            rest_line t (take have line) (chunk ++ more) l (drop used chunk ++ more) (open_lines t.lines room opens) (e more)
+            ∙ ap₂ (λ (u : Totals) (n : ℕ). text_of (t.lines + 1) (outcome_of l) ++ rest_of u (take n line') (drop used chunk ++ more)) (sym g.totals_is) (sym z);
+        used_most = most;
+        sound = ap sound_totals g.totals_is ∙ sound_next t l sound (open_lines t.lines room opens);
+        have_most = omega (arith, z);
         line_length = long;
       };
-      used_least = omega (arith, g.used_is);
-      laid = subst (Laid before after) (sym front) g.printed.text;
-      put_most = omega (arith, g.printed.put_is, (small l).text_most (s.totals.lines + 1));
+      adds = g.adds;
     }
 
   -- a line that lies whole in the chunk
-  pub turn_whole : (before after : List ℕ) (end : ℕ) (r : Step) → PrintedStep (outcome_of (take end chunk)) s.totals (end + 1) before after r → s.have ≡ 0 → end ≡ length (up_to chunk)
-      → end < length chunk → Turned s line chunk before r line after
-  turn_whole before after end r g z e h =
+  pub turn_whole : (t' : Totals) (put' : ℕ) (after : List ℕ) (end : ℕ) → Prints (outcome_of (take end chunk)) t put before t' put' after → have ≡ 0 → end ≡ length (up_to chunk) → end < length chunk
+      → Goes (state_of t have) line chunk put before (end + 1) (state_of t' have) line put' after
+  turn_whole t' put' after end g z e h =
       let ends : has_end chunk ≡ true = inside_ended chunk (omega arith) in
       let used_is : used_of chunk ≡ end + 1 = omega (arith, ended_used chunk ends) in
       let l-is : take end chunk ≡ up_to chunk = ap (λ (n : ℕ). take n chunk) e ∙ front_is chunk in
-      turned (take end chunk) line before after (end + 1) r g (omega arith) (omega arith)
+      printed (take end chunk) line t' put' after (end + 1) have g z (omega arith)
       (λ more.
       ap (λ (n : ℕ). lines_from (take n line) (chunk ++ more)) z
       ∙ lines_ended [] chunk more ends
@@ -165,56 +152,63 @@ module _ (s : State) (line chunk : List ℕ) (out : ℕ) (u : Turnable s line ch
       refl
 
   -- the bytes of a line that are kept
-  module _ (line' : List ℕ) (t : Taken) (used_is : t.used ≡ used_of chunk) (ended_is : t.ended ≡ has_end chunk)
-      (have_is : t.have ≡ length (kept (length line) (take s.have line) chunk)) (line-to : line' ≡ over (kept (length line) (take s.have line) chunk) line) where
+  module _ (line_is : length line ≡ 9219) (line' : List ℕ) (k : Taken) (used_is : k.used ≡ used_of chunk) (ended_is : k.ended ≡ has_end chunk)
+      (have_is : k.have ≡ length (kept (length line) (take have line) chunk)) (line-to : line' ≡ over (kept (length line) (take have line) chunk) line) where
     abbrev bytes : List ℕ
-    bytes = kept (length line) (take s.have line) chunk
+    bytes = kept (length line) (take have line) chunk
 
     bytes_most : length bytes ≤ length line
-    bytes_most = omega (arith, length-take (length line) (take s.have line ++ up_to chunk))
+    bytes_most = omega (arith, length-take (length line) (take have line ++ up_to chunk))
 
     pub kept_long : length line' ≡ length line
     kept_long = ap length line-to ∙ length-append bytes (drop (length bytes) line) ∙ omega (arith, length-drop (length bytes) line, bytes_most)
 
-    pub kept_inside : t.have ≤ length line'
+    pub kept_inside : k.have ≤ length line'
     kept_inside = omega (arith, kept_long, bytes_most)
 
-    kept_front : take t.have line' ≡ bytes
-    kept_front = ap (take t.have) line-to ∙ take_at bytes (drop (length bytes) line) t.have (sym have_is)
+    kept_front : take k.have line' ≡ bytes
+    kept_front = ap (take k.have) line-to ∙ take_at bytes (drop (length bytes) line) k.have (sym have_is)
 
-    clipped : bytes ≡ take 9219 (take s.have line ++ up_to chunk)
-    clipped = ap (λ (n : ℕ). take n (take s.have line ++ up_to chunk)) u.line_is
+    clipped : bytes ≡ take 9219 (take have line ++ up_to chunk)
+    clipped = ap (λ (n : ℕ). take n (take have line ++ up_to chunk)) line_is
 
-    pub turn_ended : (before after : List ℕ) (r : Step) → PrintedStep (outcome_of (take t.have line')) s.totals t.used before after r → t.ended ≡ true → Turned s line chunk before r line' after
-    turn_ended before after r g i =
+    pub turn_ended : (line'' : List ℕ) (t' : Totals) (put' : ℕ) (after : List ℕ) → Prints (outcome_of (take k.have line')) t put before t' put' after → k.ended ≡ true → length line'' ≡ length line'
+        → Goes (state_of t have) line chunk put before k.used (state_of t' 0) line'' put' after
+    turn_ended line'' t' put' after g i long =
         let ends : has_end chunk ≡ true = sym ended_is ∙ i in
-        let l = take s.have line ++ up_to chunk in
-        let same : outcome_of (take t.have line') ≡ outcome_of l =
+        let l = take have line ++ up_to chunk in
+        let same : outcome_of (take k.have line') ≡ outcome_of l =
         ap outcome_of (kept_front ∙ clipped) ∙ outcome_clip l in
-        turned l line' before after t.used r (subst (λ (o : Outcome Done). PrintedStep o s.totals t.used before after r) same g)
-        (omega (arith, ended_used chunk ends)) (omega (arith, ended_fits chunk ends))
-        (λ more. lines_ended (take s.have line) chunk more ends ∙ ap (λ (n : ℕ). l ∷ lines_from [] (drop n chunk ++ more)) (sym used_is))
-        kept_long
+        printed l line'' t' put' after k.used 0 (subst (λ (o : Outcome Done). Prints o t put before t' put' after) same g) refl
+        (omega (arith, ended_fits chunk ends))
+        (λ more. lines_ended (take have line) chunk more ends ∙ ap (λ (n : ℕ). l ∷ lines_from [] (drop n chunk ++ more)) (sym used_is))
+        (long ∙ kept_long)
 
-    pub turn_going : (before : List ℕ) → t.ended ≡ false → Turned s line chunk before (record { used = t.used; put = 0; state = record { totals = s.totals; have = t.have } }) line' before
-    turn_going before i =
+    pub turn_going : k.ended ≡ false → put ≤ length before → Goes (state_of t have) line chunk put before k.used (state_of t k.have) line' put before
+    turn_going i inside =
         let going : has_end chunk ≡ false = sym ended_is ∙ i in
-        let all : t.used ≡ length chunk = used_is ∙ going_used chunk going in
-        let l = take s.have line ++ up_to chunk in
+        let all : k.used ≡ length chunk = used_is ∙ going_used chunk going in
+        let l = take have line ++ up_to chunk in
         record {
+          text = [];
           advances = record {
             same = λ more.
-                rest_same s.totals (take s.have line) l (chunk ++ more) more (lines_going (take s.have line) chunk more going)
-                ∙ sym (rest_clip s.totals l more)
-                ∙ ap₂ (λ (p b : List ℕ). rest_of s.totals p (b ++ more)) (sym (kept_front ∙ clipped)) (sym (ap (λ (n : ℕ). drop n chunk) all ∙ drop-length chunk));
+                rest_same t (take have line) l (chunk ++ more) more (lines_going (take have line) chunk more going)
+                ∙ sym (rest_clip t l more)
+                ∙ ap₂ (λ (p b : List ℕ). rest_of t p (b ++ more)) (sym (kept_front ∙ clipped)) (sym (ap (λ (n : ℕ). drop n chunk) all ∙ drop-length chunk));
             used_most = omega arith;
-            sound = u.sound;
+            sound = sound;
             have_most = kept_inside;
             line_length = kept_long;
           };
-          used_least = omega (arith, u.some);
-          laid = record { is = refl };
-          put_most = omega arith;
+          adds = adds_none put before inside;
         }
 
-pub ruleset turning = (turn_whole, kept_long, kept_inside, turn_ended, turn_going)
+    pub some_used : 0 < length chunk → 1 ≤ k.used
+    some_used h = go (has_end chunk) refl
+      where
+        go : (b : Bool) → has_end chunk ≡ b → 1 ≤ k.used
+        go true e = omega (arith, ended_used chunk e)
+        go false e = omega (arith, going_used chunk e)
+
+pub ruleset turning = (turn_whole, kept_long, kept_inside, turn_ended, turn_going, some_used)

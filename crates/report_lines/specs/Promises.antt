@@ -1,15 +1,13 @@
 -- What the private functions promise one another. No public promise names these. Definitions only.
-use Rattle.std.specs.Prelude.{◌≡◌, true, List, [], ◌∷◌, ◌++◌, ℕ, suc, ◌+◌, ◌-◌, ◌*◌, ◌≤◌, ◌<◌, max, eqb, length, take, if◌then◌else◌}
-use borrow.Rule.Slice.PartMut.{put_mid}
+use Rattle.std.specs.Prelude.{◌≡◌, Bool, ◌&&◌, List, [], ◌∷◌, ◌++◌, ℕ, suc, ◌+◌, ◌*◌, ◌≤◌, max, leb, ltb, eqb, length, take, if◌then◌else◌}
 use Rattle.expr.specs.Outcome.{Outcome, refused, accepted}
 use Rattle.expr.specs.Front.{Whole, tree_at}
-use Rattle.expr.specs.Parts.{tail, Laid}
+use Rattle.expr.specs.Parts.{Laid}
 use Rattle.hexadecimal.specs.Hex.{hex_text}
 use Rattle.report_lines.specs.declared.Totals.{Totals}
 use Rattle.report_lines.specs.declared.State.{State}
-use Rattle.report_lines.specs.declared.Step.{Step}
-use Rattle.report_lines.specs.Report.{Done, outcome_of, text_of, plus, totals_of, closing}
-use Rattle.report_lines.specs.Steps.{rest_of, sound_totals, Advances}
+use Rattle.report_lines.specs.Report.{Done, text_of, plus, totals_of, closing}
+use Rattle.report_lines.specs.Steps.{rest_of, Advances}
 
 -- ---- text
 
@@ -51,65 +49,37 @@ Reaches (accepted d) w ws work answer =
 pub record Ran (o : Outcome Done) (w : ℕ) (ws work : List ℕ) (answer : Outcome (ℕ × ℕ)) : Type 0 where
   pub reaches : Reaches o w ws work answer
 
--- ---- a step
+-- ---- the printer
 
--- a state, a line and an output from which a call goes on
-pub record Feedable (s : State) (line out : List ℕ) : Type 0 where
-  pub sound : sound_totals s.totals ≡ true
-  pub have_most : s.have ≤ length line
-  pub line_is : length line ≡ 9219
-  pub room : 9400 ≤ length out
+-- another line is read after so many lines, and so many places are left in the output
+unfoldable pub is_open : ℕ → ℕ → Bool
+is_open lines room = ltb lines 65535 && leb 9400 room
 
--- what `turn` is lent: a sound state before line 65,535, some bytes, and room
-pub record Turnable (s : State) (line chunk : List ℕ) (out : ℕ) : Type 0 where
-  pub sound : sound_totals s.totals ≡ true
-  pub before_last : s.totals.lines < 65535
-  pub have_most : s.have ≤ length line
-  pub line_is : length line ≡ 9219
-  pub room : 9321 ≤ out
-  pub some : 0 < length chunk
+-- a text is put behind the bytes that were put
+pub record Adds (text : List ℕ) (put : ℕ) (before : List ℕ) (put' : ℕ) (after : List ℕ) : Type 0 where
+  pub laid : Laid before after (take put before ++ text)
+  pub put_is : put' ≡ put + length text
+  pub fits : put' ≤ length before
 
--- a line is printed, and nothing of the next one is kept
-pub record PrintedStep (o : Outcome Done) (t : Totals) (used : ℕ) (before after : List ℕ) (r : Step) : Type 0 where
-  pub printed : Printed o t before after r.put r.state.totals
-  pub used_is : r.used ≡ used
-  pub have_is : r.state.have ≡ 0
+-- a line with this outcome after lines with these sums
+pub record Prints (o : Outcome Done) (t : Totals) (put : ℕ) (before : List ℕ) (t' : Totals) (put' : ℕ) (after : List ℕ) : Type 0 where
+  pub adds : Adds (text_of (t.lines + 1) o) put before put' after
+  pub totals_is : t' ≡ plus t (totals_of o)
 
--- it has read to the first line end, or all
-pub record Turned (s : State) (line chunk before : List ℕ) (r : Step) (line' after : List ℕ) : Type 0 where
-  pub advances : Advances s line chunk r.used (take r.put after) r.state line'
-  pub used_least : 1 ≤ r.used
-  pub laid : Laid before after (take r.put after)
-  pub put_most : r.put ≤ 9321
+-- where the input ends with these bytes of a line: what is left of the report but for its closing line, which has room
+pub record PrintsLast (line : List ℕ) (t : Totals) (put : ℕ) (before : List ℕ) (t' : Totals) (put' : ℕ) (after : List ℕ) : Type 0 where
+  pub text : List ℕ
+  pub adds : Adds text put before put' after
+  pub is : rest_of t line [] ≡ text ++ closing t'
+  pub room : put' + 53 ≤ length before
 
--- a step that can be made behind those before it
-pub record FeedsOn (at : Step) (chunk line out : List ℕ) : Type 0 where
-  pub turnable : Turnable at.state line (tail at.used chunk) (length (tail at.put out))
-  pub used_most : at.used ≤ length chunk
-  pub put_most : at.put ≤ length out
+-- ---- a chunk
 
--- it was made: the parts of the chunk and of the output that it was lent, and the sums with it
-pub record FedOn (at : Step) (chunk line before : List ℕ) (r : Step) (line' after : List ℕ) : Type 0 where
-  pub turn : Step
-  pub rest : List ℕ
-  pub turned : Turned at.state line (tail at.used chunk) (tail at.put before) turn line' rest
-  pub out_is : after ≡ put_mid at.put (length before - at.put) before rest
-  pub is : r ≡ record { used = at.used + turn.used; put = at.put + turn.put; state = turn.state }
+abbrev pub state_of : Totals → ℕ → State
+state_of t have = record { totals = t; have = have }
 
--- `feed` from a state and lent places that it goes on from
-pub record Fed (s : State) (line chunk before : List ℕ) (r : Step) (line' after : List ℕ) : Type 0 where
-  pub advances : Advances s line chunk r.used (take r.put after) r.state line'
-  pub laid : Laid before after (take r.put after)
-  pub put_most : r.put ≤ length before
-  pub stops : r.used < length chunk → r.state.totals.lines < 65535 → length before < r.put + 9400
-
--- ---- the end
-
--- what is printed for a line without its 0a after lines with these sums
-unfoldable pub last_text : Totals → List ℕ → List ℕ
-last_text t line = text_of (t.lines + 1) (outcome_of line) ++ closing (plus t (totals_of (outcome_of line)))
-
--- `finish` from a state and lent places that it goes on from
-pub record Finished (s : State) (line before : List ℕ) (r : ℕ) (after : List ℕ) : Type 0 where
-  pub laid : Laid before after (rest_of s.totals (take s.have line) [])
-  pub count : r ≡ length (rest_of s.totals (take s.have line) [])
+-- so many bytes of the chunk are read, and what is printed of them is put behind the bytes that were put
+pub record Goes (s : State) (line chunk : List ℕ) (put : ℕ) (before : List ℕ) (used : ℕ) (s' : State) (line' : List ℕ) (put' : ℕ) (after : List ℕ) : Type 0 where
+  pub text : List ℕ
+  pub advances : Advances s line chunk used text s' line'
+  pub adds : Adds text put before put' after

@@ -1,5 +1,5 @@
 // One line: its row, the frame of its end tree, and the sums with it.
-ghost use Rattle.std.specs.Prelude.{◌≡◌, max, ◌≤◌, length};
+ghost use Rattle.std.specs.Prelude.{◌≡◌, max, ◌≤◌, length, MatchResult};
 ghost use Rattle.expr.specs.Refusals.{reason_of};
 ghost use Rattle.expr.specs.Outcome.{refused, accepted, mapped};
 ghost use Rattle.expr.specs.Front.{Whole};
@@ -22,7 +22,20 @@ pub(crate) struct Line {
     pub(crate) totals: Totals,
 }
 
-// The higher of what was found and a node's own.
+// What comes of an accepted line: its width, the words of its tree and of its end tree, and the rewrites between them.
+#[derive(Clone, Copy, Drop)]
+struct Accepted<'a> {
+    width: u32,
+    words: &'a [u64],
+    end: &'a [u64],
+    rewrites: usize,
+    ghost whole: { Whole words.now },
+    ghost end_whole: { Whole end.now },
+    ghost few: { length words.now ≤ 1024 },
+    ghost end_few: { length end.now ≤ 1024 },
+}
+
+// The higher of what was found and a node's own. The kind is a number, as the node's words have it.
 fn raised(found: u64, kind: u64, operand: u64) -> u64
     requires { own_conditions kind operand ≤ 4294967296 }
     ensures { result ≡ max found (own_conditions kind operand) }
@@ -36,121 +49,107 @@ fn raised(found: u64, kind: u64, operand: u64) -> u64
 
 // The highest variable number and one; 0 where there is no variable.
 fn conditions(words: &[u64]) -> u64
-    requires { (highest words.now ≤ 4294967296) × (length words.now ≤ 1024) }
+    requires { highest words.now ≤ 4294967296 }
     ensures { result ≡ highest words.now }
 {
     let mut found = 0;
-    for i in 0..words.len() / 2 {
-        found = raised(found, words[2 * i], words[2 * i + 1]);
+    let (nodes, _) = words.as_chunks::<2>();
+    for node in nodes {
+        found = raised(found, node[0], node[1]);
     }
     found
 }
 
-// The chain with work for 2,048 nodes.
-fn run_whole(words: &[u64], width: u32, work: &mut [u64]) -> Result<ChainEnd, Refusal>
-    requires { 4096 ≤ length work.old }
-    ensures { Ran (chained (width, words.now)) width words.now work.new (mapped end_numbers (outcome result)) }
-{
-    chain::chain(words, width, &[], &mut work[..4096])
-}
-
-// The chain with short work, and with all of it only where that is too little: the chain sets to 0 what it is lent.
+// The chain, first with short work, and with work for 2,048 nodes only where that is too little: the chain sets to 0 what it is lent.
 fn run_chain(words: &[u64], width: u32, work: &mut [u64]) -> Result<ChainEnd, Refusal>
     requires { (4096 ≤ length work.old) × (length words.now ≤ 1024) }
     ensures { Ran (chained (width, words.now)) width words.now work.new (mapped end_numbers (outcome result)) }
 {
     let short = 4 * words.len();
     match chain::chain(words, width, &[], &mut work[..short]) {
-        Err(Refusal::OutputTooSmall) => run_whole(words, width, work),
+        Err(Refusal::OutputTooSmall) => chain::chain(words, width, &[], &mut work[..4096]),
         answer => answer,
     }
 }
 
-// A line that is refused.
-fn refused_line(so_far: Ongoing, refusal: Refusal, out: &mut [u8]) -> Line
-    requires { 102 ≤ length out.old }
-    ensures { Printed (refused (reason_of refusal)) so_far.totals out.old out.new result.put result.totals }
-{
-    let totals = so_far.totals;
-    let number = Reason::from(refusal).number;
-    let row = [totals.lines + 1, number as u64, 0, 0, 0, 0];
-    Line {
-        put: text::put_fields(&row, out),
-        totals: Totals {
-            lines: totals.lines + 1,
-            refused: totals.refused + 1,
-            ..totals
-        },
-    }
-}
-
-// An accepted line, with the words of its tree and of its end tree.
-fn done_line(
-    so_far: Ongoing,
-    width: u32,
-    words: &[u64],
-    end: &[u64],
-    rewrites: usize,
-    out: &mut [u8],
-) -> Line
-    requires { (9321 ≤ length out.old) × Whole words.now × Whole end.now × (length words.now ≤ 1024) × (length end.now ≤ 1024) }
-    ensures { Printed (accepted (done_by width words.now end.now rewrites)) so_far.totals out.old out.new result.put result.totals }
-{
-    let totals = so_far.totals;
-    let before = (words.len() / 2) as u64;
-    let after = (end.len() / 2) as u64;
-    let row = [
-        totals.lines + 1,
-        0,
-        before,
-        after,
-        rewrites as u64,
-        conditions(words),
-    ];
-    let k = text::put_fields(&row, out);
-    let m = frame::put_frame(end, width, &mut out[k..]).unwrap();
-    Line {
-        put: k + m,
-        totals: Totals {
-            lines: totals.lines + 1,
-            before: totals.before + before,
-            after: totals.after + after,
-            ..totals
-        },
-    }
-}
-
-// A line with these words at this width.
-fn chained_line(
-    so_far: Ongoing,
-    width: u32,
-    words: &[u64],
-    work: &mut [u64],
-    out: &mut [u8],
-) -> Line
-    requires { (9321 ≤ length out.old) × (4096 ≤ length work.old) × (length words.now ≤ 1024) }
-    ensures { Printed (chained (width, words.now)) so_far.totals out.old out.new result.put result.totals }
-{
-    match run_chain(words, width, work) {
-        Err(refusal) => refused_line(so_far, refusal, out),
-        Ok(end) => {
-            let tree = &work[..2 * end.nodes];
-            done_line(so_far, width, words, tree, end.rewrites, out)
-        }
-    }
-}
-
-// A line, its 0a not counted.
-pub(crate) fn put_line(so_far: Ongoing, line: &[u8], scratch: &mut Scratch, out: &mut [u8]) -> Line
-    requires { 9321 ≤ length out.old }
-    ensures { Printed (outcome_of line.now) so_far.totals out.old out.new result.put result.totals }
+// What comes of a line, its 0a not counted. Two slices and not `Scratch`: the answer borrows from them, which the check does not follow through a struct
+// with ghost fields.
+fn run_line<'a>(
+    line: &[u8],
+    words: &'a mut [u64],
+    work: &'a mut [u64],
+) -> Result<Accepted<'a>, Refusal>
+    requires { (1024 ≤ length words.old) × (4096 ≤ length work.old) }
+    ensures { MatchResult result (λ done. outcome_of line.now ≡ accepted (done_by done.width done.words.now done.end.now done.rewrites)) (λ refusal. outcome_of line.now ≡ refused (reason_of refusal)) }
 {
     // with no look at the tree: the chain checks it
-    match frame::read_line(line, scratch.words) {
-        Err(refusal) => refused_line(so_far, refusal, out),
-        Ok(read) => {
-            let words = &scratch.words[..2 * read.nodes];
-            chained_line(so_far, read.width, words, scratch.work, out)
+    let read = frame::read_line(line, words)?;
+    let words = &words[..2 * read.nodes];
+    let end = run_chain(words, read.width, work)?;
+    Ok(Accepted {
+        width: read.width,
+        words,
+        end: &work[..2 * end.nodes],
+        rewrites: end.rewrites,
+    })
+}
+
+impl Ongoing {
+    // A line that is refused.
+    fn refuse(self, refusal: Refusal, out: &mut [u8]) -> Line
+        requires { 102 ≤ length out.old }
+        ensures { Printed (refused (reason_of refusal)) self.totals out.old out.new result.put result.totals }
+    {
+        let totals = self.totals;
+        let number = Reason::from(refusal).number;
+        let row = [totals.lines + 1, number as u64, 0, 0, 0, 0];
+        Line {
+            put: text::put_fields(&row, out),
+            totals: Totals {
+                lines: totals.lines + 1,
+                refused: totals.refused + 1,
+                ..totals
+            },
+        }
+    }
+
+    // A line that is accepted.
+    fn accept(self, done: Accepted, out: &mut [u8]) -> Line
+        requires { 9321 ≤ length out.old }
+        ensures { Printed (accepted (done_by done.entry.width done.entry.words.now done.entry.end.now done.entry.rewrites)) self.totals out.old out.new result.put result.totals }
+    {
+        let totals = self.totals;
+        let before = (done.words.len() / 2) as u64;
+        let after = (done.end.len() / 2) as u64;
+        let row = [
+            totals.lines + 1,
+            0,
+            before,
+            after,
+            done.rewrites as u64,
+            conditions(done.words),
+        ];
+        let k = text::put_fields(&row, out);
+        let m = frame::put_frame(done.end, done.width, &mut out[k..]).unwrap();
+        Line {
+            put: k + m,
+            totals: Totals {
+                lines: totals.lines + 1,
+                before: totals.before + before,
+                after: totals.after + after,
+                ..totals
+            },
+        }
+    }
+
+    // A line, its 0a not counted.
+    pub(crate) fn put_line(self, line: &[u8], scratch: &mut Scratch, out: &mut [u8]) -> Line
+        requires { 9321 ≤ length out.old }
+        ensures { Printed (outcome_of line.now) self.totals out.old out.new result.put result.totals }
+    {
+        match run_line(line, scratch.words, scratch.work) {
+            Err(refusal) => self.refuse(refusal, out),
+            Ok(done) => self.accept(done, out),
         }
     }
 }

@@ -5,11 +5,8 @@ use Rattle.report_lines.proofs.feed_lines.Goals as goal
 
 ruleset laws = (basics, feeding)
 
-pub loop-at-init : goal.loop-at-init
-loop-at-init c = search laws
+pub loop-used-init : goal.loop-used-init
+loop-used-init c = search laws
 
-pub feed_line-at-requires : goal.feed_line-at-requires
-feed_line-at-requires c = search laws
-
-pub loop-at-preserved : goal.loop-at-preserved
-loop-at-preserved c = search laws
+pub loop-used-preserved : goal.loop-used-preserved
+loop-used-preserved c = search laws

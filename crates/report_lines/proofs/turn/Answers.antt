@@ -5,8 +5,17 @@ use Rattle.report_lines.proofs.turn.Goals as goal
 
 ruleset laws = (basics, turning)
 
-pub print_line-requires : goal.print_line-requires
-print_line-requires c = search laws
+pub returns-then-end-chunk-clause-goes : goal.returns-then-end-chunk-clause-goes
+returns-then-end-chunk-clause-goes c = search laws
 
-pub returns-then-end-chunk : goal.returns-then-end-chunk
-returns-then-end-chunk c = search laws
+pub returns-then-t-clause-goes : goal.returns-then-t-clause-goes
+returns-then-t-clause-goes c = search laws
+
+pub returns-then-t-clause-some : goal.returns-then-t-clause-some
+returns-then-t-clause-some c = search laws
+
+pub returns-else-t-clause-goes : goal.returns-else-t-clause-goes
+returns-else-t-clause-goes c = search laws
+
+pub returns-else-t-clause-some : goal.returns-else-t-clause-some
+returns-else-t-clause-some c = search laws

@@ -8,11 +8,11 @@ ruleset laws = (basics, finding)
 pub raised-found-requires : goal.raised-found-requires
 raised-found-requires c = search laws
 
-pub loop-i-init : goal.loop-i-init
-loop-i-init c = search laws
+pub loop-node-init : goal.loop-node-init
+loop-node-init c = search laws
 
-pub loop-i-preserved : goal.loop-i-preserved
-loop-i-preserved c = search laws
+pub loop-node-preserved : goal.loop-node-preserved
+loop-node-preserved c = search laws
 
 pub returns : goal.returns
 returns c = search laws

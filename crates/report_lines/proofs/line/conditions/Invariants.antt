@@ -2,5 +2,5 @@
 use Rattle.report_lines.proofs.ConditionsLaws.{Finding}
 use Rattle.report_lines.proofs.line.conditions.Given as goal
 
-abbrev pub invariant-loop-i : goal.invariant-loop-i
-invariant-loop-i l = Finding l.words l.found l.i
+abbrev pub invariant-loop-node : goal.invariant-loop-node
+invariant-loop-node l = Finding l.words l.found l.node-index

@@ -1,11 +1,11 @@
--- `report_lines::line::done_line` meets its contract. Assumes nothing.
+-- `report_lines::lent::Ongoing::accept` meets its contract. Assumes nothing.
 use Prim.Native.Nat.{◌≤◌}
 use lib.ListN.{length}
 use Rattle.arith.specs.NeedLaws.{basics}
 use Rattle.expr.specs.Parts.{tail}
 use Rattle.frame.specs.Answers.{frame_bytes}
 use Rattle.report_lines.proofs.PrintedLaws.{accepting, framing, tree_laid, frame_count}
-use Rattle.report_lines.proofs.line.done_line.Goals as goal
+use Rattle.report_lines.proofs.lent.Ongoing.accept.Goals as goal
 
 ruleset laws = (basics, accepting, framing)
 
@@ -20,7 +20,7 @@ overflow_add-result-4 c = search laws
 
 pub returns : goal.returns
 returns c =
-    let fits : frame_bytes c.args.end.now ≤ length (tail c.put_fields-k.result c.put_fields-k.new.out) = search laws in
-    let laid = tree_laid c.args.end.now (search laws) c.args.width _ _ _ c.put_frame.ensures fits in
-    let count = frame_count c.args.end.now (search laws) c.args.width _ _ _ c.put_frame.ensures fits _ c.unwrap-m.ensures in
+    let fits : frame_bytes c.args.done.end.now ≤ length (tail c.put_fields-k.result c.put_fields-k.new.out) = search laws in
+    let laid = tree_laid c.args.done.end.now (search laws) c.args.done.width _ _ _ c.put_frame.ensures fits in
+    let count = frame_count c.args.done.end.now (search laws) c.args.done.width _ _ _ c.put_frame.ensures fits _ c.unwrap-m.ensures in
     search (laws, laid, count)

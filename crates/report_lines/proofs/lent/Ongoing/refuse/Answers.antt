@@ -1,7 +1,7 @@
--- `report_lines::line::refused_line` meets its contract. Assumes nothing.
+-- `report_lines::lent::Ongoing::refuse` meets its contract. Assumes nothing.
 use Rattle.arith.specs.NeedLaws.{basics}
 use Rattle.report_lines.proofs.PrintedLaws.{refusing, refused_printed}
-use Rattle.report_lines.proofs.line.refused_line.Goals as goal
+use Rattle.report_lines.proofs.lent.Ongoing.refuse.Goals as goal
 
 ruleset laws = (basics, refusing)
 
