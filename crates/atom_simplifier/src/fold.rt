@@ -66,6 +66,7 @@ fn constant_val(tree: Tree<'_>, width: Width) -> Option<u64>
 }
 
 // The only place where parts are compared: word by word, whatever the width.
+#[tactic(auto, unfolding(rewriting::specs::AtomSimplifier::same_part))]
 pub(crate) fn same_part(a: Tree<'_>, b: Tree<'_>, width: Width) -> bool
     ensures { result ≡ same_part width.bits (tree_of a.entry) (tree_of b.entry) }
 {
@@ -73,6 +74,7 @@ pub(crate) fn same_part(a: Tree<'_>, b: Tree<'_>, width: Width) -> bool
 }
 
 // Whether the tree is the Constant c.
+#[tactic(auto, unfolding(crate::specs::Promises::is_constant))]
 pub(crate) fn is_constant(tree: Tree<'_>, c: u64, width: Width) -> bool
     ensures { result ≡ is_constant width.bits (tree_of tree.entry) c }
 {
@@ -80,6 +82,7 @@ pub(crate) fn is_constant(tree: Tree<'_>, c: u64, width: Width) -> bool
 }
 
 // Trees are compared as the width has it; the candidates' `is_not_of` compares them raw.
+#[tactic(auto, using(crate::proofs::OperandLaws::not_tests))]
 fn is_not_of(outer: Tree<'_>, inner: Tree<'_>, width: Width) -> bool
     ensures { result ≡ is_not_of width.bits (tree_of outer.entry) (tree_of inner.entry) }
 {
@@ -89,6 +92,7 @@ fn is_not_of(outer: Tree<'_>, inner: Tree<'_>, width: Width) -> bool
     }
 }
 
+#[tactic(auto, unfolding(rewriting::specs::AtomSimplifier::are_complements))]
 fn are_complements(a: Tree<'_>, b: Tree<'_>, width: Width) -> bool
     ensures { result ≡ are_complements width.bits (tree_of a.entry) (tree_of b.entry) }
 {
@@ -96,6 +100,7 @@ fn are_complements(a: Tree<'_>, b: Tree<'_>, width: Width) -> bool
 }
 
 // Whether `whole` is a node of the kind `op` with `part` as one of its two operands.
+#[tactic(auto, using(crate::proofs::OperandLaws::operand_tests))]
 fn contains_operand(whole: Tree<'_>, op: Binary, part: Tree<'_>, width: Width) -> bool
     ensures { result ≡ contains_operand width.bits (tree_of whole.entry) op (tree_of part.entry) }
 {
@@ -153,6 +158,7 @@ impl BinaryFold {
         }
     }
 
+    #[tactic(auto, using(crate::proofs::ArmLaws::constants))]
     fn constant_arms(self, lhs: Tree<'_>, rhs: Tree<'_>) -> Arm
         ensures { arm_tree (bitwise_of self.op) (tree_of lhs.entry) (tree_of rhs.entry) result ≡ constant_arms self.width.bits (bitwise_of self.op) (tree_of lhs.entry) (tree_of rhs.entry) }
     {
@@ -172,6 +178,7 @@ impl BinaryFold {
     }
 
     // Complements, absorption, and the constants 0 and all ones.
+    #[tactic(auto, using(crate::proofs::ArmLaws::operands))]
     fn arms(self, lhs: Tree<'_>, rhs: Tree<'_>) -> Arm
         ensures { arm_tree (bitwise_of self.op) (tree_of lhs.entry) (tree_of rhs.entry) result ≡ arms self.width.bits (bitwise_of self.op) (tree_of lhs.entry) (tree_of rhs.entry) }
     {
