@@ -209,6 +209,7 @@ impl BinaryFold {
     }
 
     // What the arms make of the part and the constant c.
+    #[tactic(auto, using(crate::proofs::ReassociateLaws::beside))]
     fn constant_beside(self, part: Placed<'_>, c: u64) -> Decision
         ensures { DecidesAt (number_of self.op) part.entry.at part.entry.tree.words.now (Some result) (some (arms self.width.bits (bitwise_of self.op) (tree_of part.entry.tree) (constant c))) }
     {
@@ -223,6 +224,7 @@ impl BinaryFold {
 
     // The fold of the part with the constants d and c as one.
     #[cycle(fold_constants_reassociate_constant)]
+    #[tactic(auto, using(crate::proofs::ReassociateLaws::folded_two))]
     fn fold_constants(self, part: Placed<'_>, d: u64, c: u64) -> Decision
         ensures { DecidesAt (number_of self.op) part.entry.at part.entry.tree.words.now (Some result) (some (try_fold_binary self.width.bits (bitwise_of self.op) (tree_of part.entry.tree) (constant (folded_word self.width.bits (bitwise_of self.op) d c)))) }
     {
@@ -236,6 +238,7 @@ impl BinaryFold {
     // `(x op d) op c`, or `(d op x) op c`, as the fold of x and `d op c`; `lhs` is the inner node. The Rust calls `try_fold_binary` again here,
     // whose right operand is then that constant.
     #[cycle(fold_constants_reassociate_constant)]
+    #[tactic(auto, using(crate::proofs::ReassociateLaws::reassociation))]
     fn reassociate_constant(self, lhs: Placed<'_>, rhs_const: u64) -> Option<Decision>
         ensures { DecidesAt (number_of self.op) lhs.entry.at lhs.entry.tree.words.now result (reassociate_constant self.width.bits (bitwise_of self.op) (tree_of lhs.entry.tree) rhs_const) }
     {
@@ -248,6 +251,7 @@ impl BinaryFold {
     }
 
     // Reassociation of the operand x with the other operand y, where y is a constant.
+    #[tactic(auto, using(crate::proofs::NodeFoldLaws::beside_none))]
     fn reassociate_beside(self, x: Placed<'_>, y: Tree<'_>) -> Option<Decision>
         ensures { DecidesAt (number_of self.op) x.entry.at x.entry.tree.words.now result (constant_val self.width.bits (tree_of y.entry) and_then reassociate_constant self.width.bits (bitwise_of self.op) (tree_of x.entry.tree)) }
     {
@@ -270,6 +274,7 @@ impl NodeFold<'_> {
     ghost use Rattle.atom_simplifier.specs.Promises.{arm_rewrite, Decides};
 
     // What the arms make of the node, where it is another tree.
+    #[tactic(auto, using(crate::proofs::NodeFoldLaws::node_arms))]
     fn arm_rewrite(self) -> Option<Decision>
         ensures { Decides self.entry.operands.node.words.now result (arm_rewrite self.entry.by.width.bits (bitwise_of self.entry.by.op) (left_of (tree_of self.entry.operands.node)) (right_of (tree_of self.entry.operands.node))) }
     {
@@ -285,6 +290,7 @@ impl NodeFold<'_> {
 
     // The fold, where it gives another tree: reassociation with the right operand's constant, or else with the left one's, or else the arms. Such
     // a tree has fewer nodes (ShapeLaws, `reassociated_less`), so that the two are not compared.
+    #[tactic(auto, using(crate::proofs::NodeFoldLaws::node_fold))]
     pub(crate) fn try_fold_binary(self) -> Option<Decision>
         ensures { Decides self.entry.operands.node.words.now result (fold_rewrite self.entry.by.width.bits (bitwise_of self.entry.by.op) (left_of (tree_of self.entry.operands.node)) (right_of (tree_of self.entry.operands.node))) }
     {
