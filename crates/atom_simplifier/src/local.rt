@@ -27,28 +27,41 @@ pub(crate) enum Decision {
 }
 
 // A Not over the tree: the operand of a second Not; De Morgan, where it is over an And or Or of which one operand is a Not.
+#[tactic(auto, using(crate::proofs::LocalLaws::not_rule))]
 fn not_rewrite(below: Tree<'_>) -> Option<Decision>
     ensures { Decides (unary_number Not ∷ 0 ∷ below.entry.words.now) result (not_rewrite (tree_of below.entry)) }
 {
     match below.node() {
-        Node::Unary(Unary::Not, operand) => Some(Decision::Part(4, operand.words.len())),
-        Node::Binary(Binary::And | Binary::Or, l, r) => {
-            if l.operand(Unary::Not).is_none() && r.operand(Unary::Not).is_none() {
-                return None;
+        Node::Leaf(_) => None,
+        Node::Unary(kind, operand) => match kind {
+            Unary::Not => Some(Decision::Part(4, operand.words.len())),
+            _ => None,
+        },
+        Node::Binary(kind, l, r) => match kind {
+            Binary::And | Binary::Or => {
+                if l.operand(Unary::Not).is_none() && r.operand(Unary::Not).is_none() {
+                    return None;
+                }
+                Some(Decision::DeMorgan(4 + l.words.len()))
             }
-            Some(Decision::DeMorgan(4 + l.words.len()))
-        }
-        _ => None,
+            _ => None,
+        },
     }
 }
 
 // A node with one child.
+#[tactic(auto, using(crate::proofs::LocalLaws::unary_rule))]
 fn unary_rewrite(kind: Unary, child: Tree<'_>) -> Option<Decision>
     ensures { (w : ℕ) → Decides (unary_number kind ∷ unary_operand kind ∷ child.entry.words.now) result (local_rewrite w (unary kind (tree_of child.entry))) }
 {
     match kind {
         Unary::Not => not_rewrite(child),
-        Unary::Shr(0) => Some(Decision::Part(2, child.words.len())),
+        Unary::Shr(by) => {
+            if by != 0 {
+                return None;
+            }
+            Some(Decision::Part(2, child.words.len()))
+        }
         _ => None,
     }
 }
@@ -75,6 +88,7 @@ impl NodeFold<'_> {
 }
 
 // A node with two children.
+#[tactic(auto, using(expr::specs::PartLaws::parts, crate::proofs::LocalLaws::binary_stays))]
 pub(crate) fn binary_rewrite(operands: Operands<'_>, width: Width) -> Option<Decision>
     ensures { Decides operands.entry.node.words.now result (local_rewrite width.bits (tree_of operands.entry.node)) }
 {
@@ -84,6 +98,7 @@ pub(crate) fn binary_rewrite(operands: Operands<'_>, width: Width) -> Option<Dec
 }
 
 // The root of a tree.
+#[tactic(auto, using(crate::proofs::LocalLaws::root_rule))]
 pub(crate) fn root_rewrite(tree: Tree<'_>, width: Width) -> Option<Decision>
     ensures { Decides tree.entry.words.now result (local_rewrite width.bits (tree_of tree.entry)) }
 {
