@@ -32,20 +32,14 @@ fn not_rewrite(below: Tree<'_>) -> Option<Decision>
     ensures { Decides (unary_number Not ∷ 0 ∷ below.entry.words.now) result (not_rewrite (tree_of below.entry)) }
 {
     match below.node() {
-        Node::Leaf(_) => None,
-        Node::Unary(kind, operand) => match kind {
-            Unary::Not => Some(Decision::Part(4, operand.words.len())),
-            _ => None,
-        },
-        Node::Binary(kind, l, r) => match kind {
-            Binary::And | Binary::Or => {
-                if l.operand(Unary::Not).is_none() && r.operand(Unary::Not).is_none() {
-                    return None;
-                }
-                Some(Decision::DeMorgan(4 + l.words.len()))
+        Node::Unary(Unary::Not, operand) => Some(Decision::Part(4, operand.words.len())),
+        Node::Binary(Binary::And | Binary::Or, l, r) => {
+            if l.operand(Unary::Not).is_none() && r.operand(Unary::Not).is_none() {
+                return None;
             }
-            _ => None,
-        },
+            Some(Decision::DeMorgan(4 + l.words.len()))
+        }
+        _ => None,
     }
 }
 
@@ -56,12 +50,7 @@ fn unary_rewrite(kind: Unary, child: Tree<'_>) -> Option<Decision>
 {
     match kind {
         Unary::Not => not_rewrite(child),
-        Unary::Shr(by) => {
-            if by != 0 {
-                return None;
-            }
-            Some(Decision::Part(2, child.words.len()))
-        }
+        Unary::Shr(0) => Some(Decision::Part(2, child.words.len())),
         _ => None,
     }
 }
