@@ -1,10 +1,6 @@
 -- `atom_simplifier::fold::BinaryFold::constant_beside` meets its contract. Assumes nothing.
-use Rattle.std.proofs.Common.{rules}
 use Rattle.atom_simplifier.proofs.ReassociateLaws.{constant_whole}
 use Rattle.atom_simplifier.proofs.fold.BinaryFold.constant_beside.Goals as goal
 
 pub invariant_of-arms-clause-whole : goal.invariant_of-arms-clause-whole
 invariant_of-arms-clause-whole c = constant_whole c.args.c
-
-pub invariant_of-arms-clause-short : goal.invariant_of-arms-clause-short
-invariant_of-arms-clause-short c = search rules

@@ -6,14 +6,10 @@ use Rattle.atom_simplifier.proofs.LocalLaws.{equal_operands, three_one, one_kind
 use Rattle.atom_simplifier.proofs.fold.NodeFold.rewrite.Goals as goal
 use Rattle.atom_simplifier.proofs.fold.NodeFold.rewrite.Goals.{else-ne-via-then-ne+else-same_part, else-ne-via-else-ne, else-eq-via-then-eq+then-is_constant+else-is_constant-2, else-eq-via-then-eq+else-is_constant, else-eq-via-else-eq}
 
+ruleset laws = (rules, same_tested, one_tested, equal_decides, three_one_decides, left_goes)
+
 pub returns-then-same_part : goal.returns-then-same_part
-returns-then-same_part c =
-    let n = c.args.self.operands in
-    equal_decides n.node.words.now (tree_of n.node) n.node.whole n.two_children c.args.self.by.op c.args.self.kind_is c.args.self.by.width.bits
-    _ _ c.lhs-lhs.ensures.tree c.rhs-rhs.ensures.tree
-    (same_tested _ _ _ _ _ c.ne.ensures c.if-ne.true _ c.same_part.ensures _ c.if-same_part.true)
-    c.part.result
-    (left_goes n.node.words.now (tree_of n.node) n.node.whole n.two_children n.right n.right_is _ _ c.lhs-lhs.ensures.words c.rhs-rhs.ensures.words _ c.lhs-lhs.ensures.place _ c.part.ensures)
+returns-then-same_part c = search laws
 
 pub returns-then-is_constant-2 : goal.returns-then-is_constant-2
 returns-then-is_constant-2 c =
@@ -26,8 +22,7 @@ returns-then-is_constant-2 c =
       else-ne-via-then-ne+else-same_part v ↦ same_tested w o l r _ c.ne.ensures v.if-ne.true _ v.same_part.ensures _ v.if-same_part.false
     | else-ne-via-else-ne v ↦ one_kind w o l r _ c.ne.ensures v.if-ne.false
     ] in
-    three_one_decides n.node.words.now (tree_of n.node) n.node.whole n.two_children o c.args.self.kind_is w l r c.lhs-lhs.ensures.tree c.rhs-rhs.ensures.tree
-    e (one_tested w o l r _ c.eq.ensures c.if-eq.true _ c.is_constant.ensures c.if-is_constant.true _ c.is_constant-then-is_constant.ensures _ c.if-is_constant-2.true)
+    search (laws, e)
 
 pub returns : goal.returns
 returns c =
