@@ -26,7 +26,7 @@ use Rattle.expr.specs.Parse as kinds
 use Rattle.expr.specs.KindLaws.{number_arity, same_binary}
 use Rattle.expr.specs.Parts.{tail, part}
 use Rattle.expr.specs.Front.{Exactly, Whole, tree_at, left_of, right_of}
-use Rattle.expr.specs.PartLaws.{parts, TwoChildren, two_children}
+use Rattle.expr.specs.PartLaws.{two_children}
 use Rattle.expr.specs.Trees.{operand_of, optional_tree}
 use Rattle.expr.specs.Optional.{only_if}
 use Rattle.rewriting.specs.AtomSimplifier as def
@@ -38,7 +38,7 @@ use Rattle.atom_simplifier.specs.declared.fold.Bitwise.TheVariants as op
 use Rattle.atom_simplifier.specs.declared.local.Decision.{Decision}
 use Rattle.atom_simplifier.specs.declared.local.Decision.TheVariants as local
 use Rattle.atom_simplifier.specs.Promises.{is_constant, bitwise_of, number_of, dual_number, Makes, Decides}
-use Rattle.atom_simplifier.proofs.DecideLaws.{decides_none, decides_some, all_within, part_holds, part_within, left_holds}
+use Rattle.atom_simplifier.proofs.DecideLaws.{decides_none, decides_some, part_holds, left_holds}
 
 -- ---- `not_rewrite`
 

@@ -12,9 +12,12 @@ reassociate_constant-returns-in-Some t c =
 
 pub reassociate_constant-returns-in_err-d : goal.reassociate_constant-returns-in_err-d
 reassociate_constant-returns-in_err-d t c =
-    search (rules, no_constants c.args.self.op c.args.lhs.tree.words.now c.args.lhs.at c.args.self.width.bits c.args.rhs_const (tree_of c.args.lhs.tree) c.into.result c.into.ensures
-    c.in_ok-l.l.tree.words.now c.in_ok-l.r.tree.words.now c.in_ok-l.ensures.trees c.in_ok-l.l.at c.in_ok-l.r.at c.in_ok-l.ensures.places c.constant_val.result c.constant_val.ensures
-    (not_some c.constant_val.result c.in_default.not-Some) c.constant_val-2.result c.constant_val-2.ensures c.in_err-d.was)
+    search (
+      rules,
+      no_constants c.args.self.op c.args.lhs.tree.words.now c.args.lhs.at c.args.self.width.bits c.args.rhs_const (tree_of c.args.lhs.tree) c.into.result c.into.ensures
+          c.in_ok-l.l.tree.words.now c.in_ok-l.r.tree.words.now c.in_ok-l.ensures.trees c.in_ok-l.l.at c.in_ok-l.r.at c.in_ok-l.ensures.places c.constant_val.result c.constant_val.ensures
+          (not_some c.constant_val.result c.in_default.not-Some) c.constant_val-2.result c.constant_val-2.ensures c.in_err-d.was,
+    )
 
 pub reassociate_constant-returns : goal.reassociate_constant-returns
 reassociate_constant-returns t c =
