@@ -14,7 +14,6 @@ use Rattle.std.specs.Prelude.{Some, None, if◌then◌else◌}
 use Rattle.std.specs.Prelude as answered
 use Rattle.expr.specs.Outcome.{accepted}
 use Rattle.expr.specs.declared.kind.Leaf.{Leaf}
-use Rattle.expr.specs.declared.kind.Leaf.TheVariants.{Constant, Variable}
 use Rattle.expr.specs.declared.kind.Unary.{Unary}
 use Rattle.expr.specs.declared.kind.Unary.TheVariants.{Not, Neg, Shr, ZExt, SExt, Trunc}
 use Rattle.expr.specs.declared.kind.Binary.{Binary}
@@ -31,7 +30,6 @@ use Rattle.expr.specs.Trees.{operand_of, optional_tree}
 use Rattle.expr.specs.Optional.{only_if}
 use Rattle.rewriting.specs.AtomSimplifier as def
 use Rattle.rewriting.specs.AtomSimplifier.{constant, is_not_kind, is_not, same_part, kind_of, fold_rewrite, de_morgan, not_rewrite, unary_rewrite, binary_rewrite, local_rewrite}
-use Rattle.rewriting.specs.TestLaws.{not_number}
 use Rattle.atom_simplifier.specs.contracts.fold.Bitwise.{the_type}
 use Rattle.atom_simplifier.specs.declared.fold.Bitwise as fold
 use Rattle.atom_simplifier.specs.declared.fold.Bitwise.TheVariants as op
@@ -41,26 +39,6 @@ use Rattle.atom_simplifier.specs.Promises.{is_constant, bitwise_of, number_of, d
 use Rattle.atom_simplifier.proofs.DecideLaws.{decides_none, decides_some, part_holds, left_holds}
 
 -- ---- `not_rewrite`
-
--- a tree is a Not if its first word is 7
-pub root_not : (t : Expr) → is_not t ≡ eqb (get_or (encode t) 0 0) 7
-unfolding encode
-root_not (leaf (Constant c)) = refl
-root_not (leaf (Variable i)) = refl
-root_not (unary k t) = not_number k
-root_not (binary Add l r) = refl
-root_not (binary Mul l r) = refl
-root_not (binary And l r) = refl
-root_not (binary Or l r) = refl
-root_not (binary Xor l r) = refl
-root_not (binary Concat l r) = refl
-
--- the first word of a tree is not that of what follows it
-pub first_word : (t : Expr) (vs : List ℕ) → get_or (encode t ++ vs) 0 0 ≡ get_or (encode t) 0 0
-unfolding encode
-first_word (leaf k) vs = refl
-first_word (unary k t) vs = refl
-first_word (binary k l r) vs = refl
 
 if_none : (b : Bool) → ◌≡◌ {A = Option Expr} (if b then none else none) none
 if_none true = refl

@@ -1,30 +1,14 @@
 -- What the fold asks of its operands, by the trees that the calls hand out. Assumes nothing.
 use mathlib.Core.Path.{◌≡◌, refl, sym, ap, ◌∙◌}
 use mathlib.Core.Bool.{Bool, true, false, ◌&&◌, ◌||◌}
-use mathlib.Core.List.{List}
 use mathlib.Core.Option.{Option, none, some}
 use Prim.Native.Nat.{ℕ}
-use lib.ListN.{get_or}
-use Rattle.expr.specs.declared.Arity.{Arity}
-use Rattle.expr.specs.declared.Arity.TheVariants as arity
-use Rattle.expr.specs.Answers.{children_of}
-use Rattle.expr.specs.Outcome.{accepted}
 use Rattle.expr.specs.declared.kind.Unary.TheVariants.{Not, Neg, Shr, ZExt, SExt, Trunc}
 use Rattle.expr.specs.declared.kind.Binary.{Binary}
 use Rattle.expr.specs.Expr.{Expr, leaf, unary, binary}
-use Rattle.expr.specs.Parse.{arity_of}
 use Rattle.expr.specs.Trees.{same_kind, operand_of, operands_of}
 use Rattle.expr.specs.Optional.{only_if}
 use Rattle.rewriting.specs.AtomSimplifier.{same_part, is_not_of, contains_operand}
-
--- ---- kinds by their numbers
-
-module _ (ws : List ℕ) (v : Arity) (h : accepted (children_of v) ≡ arity_of (get_or ws 0 0)) where
-  pub arity_one : v ≡ arity.One → arity_of (get_or ws 0 0) ≡ accepted 1
-  arity_one e = sym h ∙ ap (λ (a : Arity). accepted (children_of a)) e
-
-  pub arity_two : v ≡ arity.Two → arity_of (get_or ws 0 0) ≡ accepted 2
-  arity_two e = sym h ∙ ap (λ (a : Arity). accepted (children_of a)) e
 
 module _ (w : ℕ) where
   -- ---- `is_not_of`
