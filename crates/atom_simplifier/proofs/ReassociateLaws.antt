@@ -23,7 +23,7 @@ use Rattle.atom_simplifier.specs.declared.fold.Arm.TheVariants as arm
 use Rattle.atom_simplifier.specs.declared.local.Decision.{Decision}
 use Rattle.atom_simplifier.specs.declared.local.Decision.TheVariants.{Part, Constant, Join}
 use Rattle.atom_simplifier.specs.Promises.{arm_tree, bitwise_of, number_of, Within, Makes, Decides, DecidesAt}
-use Rattle.atom_simplifier.proofs.DecideLaws.{not_some, decides_none, decides_some, none_decided, some_decided, part_holds, left_within, right_within}
+use Rattle.atom_simplifier.proofs.DecideLaws.{decides_none, decides_some, none_decided, some_decided, part_holds, left_within, right_within}
 
 -- ---- the words of a constant
 
@@ -122,8 +122,8 @@ module _ (op : Bitwise) (lhs : List ℕ) (at w c : ℕ) (t : Expr) where
       }
 
       module _ (i : v ≡ None) (y : answered.Option ℕ) (m : option_of y ≡ constant_val w (tree_at ls)) where
-        pub no_constants : y ≡ None → Reassociated None
-        no_constants n = nothing (made none none (sym g ∙ ap option_of i) (sym m ∙ ap option_of n))
+        pub no_constants : y ≡ None → (r : answered.Option Decision) → r ≡ None → Reassociated r
+        no_constants n r q = subst Reassociated (sym q) (nothing (made none none (sym g ∙ ap option_of i) (sym m ∙ ap option_of n)))
 
         pub from_left : Whole ls → (d : ℕ) (r : Decision) → y ≡ Some d → DecidesAt (number_of op) right rs (Some r) (some (folded_beside (tree_at rs) d)) → Reassociated (Some r)
         from_left x d r n q = record {
@@ -161,7 +161,5 @@ module _ (op : Bitwise) (from w d c m : ℕ) (part : List ℕ) (t : Expr) (e : m
   }
 
 pub ruleset folded_two = (found_folded, none_folded)
-
-pub ruleset reassociation = (not_some, other_kind, from_right, no_constants, from_left)
 
 pub ruleset beside = (constant_whole, arm_right, arm_constant, arm_left, arm_node)

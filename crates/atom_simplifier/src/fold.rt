@@ -238,7 +238,7 @@ impl BinaryFold {
     // `(x op d) op c`, or `(d op x) op c`, as the fold of x and `d op c`; `lhs` is the inner node. The Rust calls `try_fold_binary` again here,
     // whose right operand is then that constant.
     #[cycle(fold_constants_reassociate_constant)]
-    #[tactic(auto, using(crate::proofs::ReassociateLaws::reassociation))]
+    #[tactic(auto, using(crate::proofs::ReassociateLaws::other_kind))]
     fn reassociate_constant(self, lhs: Placed<'_>, rhs_const: u64) -> Option<Decision>
         ensures { DecidesAt (number_of self.op) lhs.entry.at lhs.entry.tree.words.now result (reassociate_constant self.width.bits (bitwise_of self.op) (tree_of lhs.entry.tree) rhs_const) }
     {

@@ -1,6 +1,4 @@
 -- `atom_simplifier::fold::BinaryFold::fold_constants` and `reassociate_constant` meet their contracts. Assumes nothing.
-use Rattle.std.proofs.Common.{rules}
-use Rattle.expr.specs.Trees.{tree_of}
 use Rattle.atom_simplifier.proofs.DecideLaws.{not_some}
 use Rattle.atom_simplifier.proofs.ReassociateLaws.{from_right, no_constants, from_left}
 use Rattle.atom_simplifier.proofs.fold.BinaryFold.+fold_constants_reassociate_constant.Goals as goal
@@ -12,12 +10,8 @@ reassociate_constant-returns-in-Some t c =
 
 pub reassociate_constant-returns-in_err-d : goal.reassociate_constant-returns-in_err-d
 reassociate_constant-returns-in_err-d t c =
-    search (
-      rules,
-      no_constants c.args.self.op c.args.lhs.tree.words.now c.args.lhs.at c.args.self.width.bits c.args.rhs_const (tree_of c.args.lhs.tree) c.into.result c.into.ensures
-          c.in_ok-l.l.tree.words.now c.in_ok-l.r.tree.words.now c.in_ok-l.ensures.trees c.in_ok-l.l.at c.in_ok-l.r.at c.in_ok-l.ensures.places c.constant_val.result c.constant_val.ensures
-          (not_some c.constant_val.result c.in_default.not-Some) c.constant_val-2.result c.constant_val-2.ensures c.in_err-d.was,
-    )
+    no_constants c.args.self.op _ _ _ _ _ _ c.into.ensures _ _ c.in_ok-l.ensures.trees _ _ c.in_ok-l.ensures.places _ c.constant_val.ensures
+    (not_some c.constant_val.result c.in_default.not-Some) _ c.constant_val-2.ensures c.in_err-d.was _ c.from_residual-in_err-d.ensures
 
 pub reassociate_constant-returns : goal.reassociate_constant-returns
 reassociate_constant-returns t c =
