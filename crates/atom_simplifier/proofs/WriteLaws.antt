@@ -26,18 +26,17 @@ copied_length : (w a e : ℕ) (ws : List ℕ) → a ≤ e → e ≤ length ws �
 unfolding copied
 copied_length w a e ws h l = length-take-le (e - a) (drop a ws) (omega (arith, length-drop a ws))
 
-module _ (w : ℕ) (node before first : List ℕ) where
-  pub join_laid : (k c at end : ℕ) → at ≤ end → end ≤ length node → Laid before first (k ∷ 0 ∷ [])
-      → (second third : List ℕ) → Laid (tail 2 first) second (copied w (part at end node))
+module _ (w : ℕ) (part before first : List ℕ) where
+  pub join_laid : (k c : ℕ) → Laid before first (k ∷ 0 ∷ []) → (second third : List ℕ) → Laid (tail 2 first) second (copied w part)
       → let v = put_mid 2 (length first - 2) first second in
-      let last = 2 + (end - at) in
-      Laid (tail last v) third (0 ∷ c ∷ [])
-      → Laid before (put_mid last (length v - last) v third) (((k ∷ 0 ∷ []) ++ copied w (part at end node)) ++ (0 ∷ c ∷ []))
-  join_laid k c at end h l p second third q r =
-      let xs = copied w (part at end node) in
-      let e : 2 + (end - at) ≡ length ((k ∷ 0 ∷ []) ++ xs) = omega (arith, copied_length w at end node h l) in
-      laid_on before _ ((k ∷ 0 ∷ []) ++ xs) (laid_on before first (k ∷ 0 ∷ []) p 2 refl second xs q) (2 + (end - at)) e third (0 ∷ c ∷ []) r
+      let last = 2 + length part in
+      Laid (tail last v) third (0 ∷ c ∷ []) → Laid before (put_mid last (length v - last) v third) (((k ∷ 0 ∷ []) ++ copied w part) ++ (0 ∷ c ∷ []))
+  unfolding copied
+  join_laid k c p second third q r =
+      let e : 2 + length part ≡ length ((k ∷ 0 ∷ []) ++ part) = omega arith in
+      laid_on before _ ((k ∷ 0 ∷ []) ++ part) (laid_on before first (k ∷ 0 ∷ []) p 2 refl second part q) (2 + length part) e third (0 ∷ c ∷ []) r
 
+module _ (w : ℕ) (node before first : List ℕ) where
   pub de_morgan_laid : (k d right end : ℕ) → d ≡ dual_number k → 4 ≤ right → right ≤ length node → Laid before first (d ∷ 0 ∷ [])
       → (second third : List ℕ) → Laid (tail 2 first) second ((7 ∷ 0 ∷ []) ++ copied w (part 4 right node))
       → let v = put_mid 2 (length first - 2) first second in
