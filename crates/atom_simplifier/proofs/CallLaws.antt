@@ -20,7 +20,7 @@ use Rattle.expr.specs.ExprLaws.{length_encode}
 use Rattle.expr.specs.Parse.{parse}
 use Rattle.expr.specs.Front.{tree_at}
 use Rattle.width.specs.Checked.{width_of_call}
-use Rattle.width.specs.CheckedLaws.{width_refused, checked_parse, Admitted, admitted_sound}
+use Rattle.width.specs.CheckedLaws.{width_refused, given_width, checked_parse, Admitted, admitted_sound}
 use Rattle.expr.specs.Optional.{map}
 use Rattle.rewriting.specs.AtomSimplifier as def
 use Rattle.rewriting.specs.AtomSimplifier.{local_rewrite, first_site}
@@ -48,9 +48,11 @@ module _ (ws : List ℕ) (w room : ℕ) where
     unfolding admitted
     words_no r f = ap asked (f ∙ checked_parse w b e ws)
 
-    pub room_asked : (t : Expr) → accepted t ≡ parse ws → (o : Outcome Expr) → o ≡ with_room room t → o ≡ admitted ws w room
+    pub room_asked : (t : Expr) → accepted t ≡ parse ws → with_room room t ≡ admitted ws w room
     unfolding admitted
-    room_asked t f o g = g ∙ ap asked (f ∙ checked_parse w b e ws)
+    room_asked t f = ap asked (f ∙ checked_parse w b e ws)
+
+pub ruleset admitting = (given_width, width_no, words_no)
 
 -- ---- a tree that was admitted
 
