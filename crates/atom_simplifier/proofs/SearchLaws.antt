@@ -34,7 +34,7 @@ use Rattle.rewriting.specs.AtomSimplifier.{local_rewrite, here, below, first_sit
 use Rattle.rewriting.specs.SiteLaws.{first_site_lem}
 use Rattle.atom_simplifier.specs.declared.local.Decision.{Decision}
 use Rattle.atom_simplifier.specs.declared.search.Site.{Site}
-use Rattle.atom_simplifier.specs.Promises.{Makes, Meaning, Decides, at_root, IsFound, SearchIs, Searched}
+use Rattle.atom_simplifier.specs.Promises.{Meaning, Decides, at_root, IsFound, SearchIs, Searched}
 
 -- ---- answers
 
@@ -300,9 +300,6 @@ module _ (ws : List ℕ) (by : ℕ) where
   pub part_falls : (t : ℕ) → 3 * length ws ≡ t → 1 ≤ by → by ≤ length ws → 3 * length (tail by ws) + 2 < t
   part_falls t e f g = omega (arith, length_tail by ws)
 
-  pub by_scaled : length ws ≤ 1024 → by ≤ length ws → Fits w64 (by * 8)
-  by_scaled h g = omega arith
-
   module _ (path : List ℕ) (d : depth (tree_at (tail by ws)) ≤ length path) where
     pub path_left : 1 ≤ length path
     path_left = omega (arith, depth_pos (tree_at (tail by ws)))
@@ -312,10 +309,6 @@ module _ (ws : List ℕ) (by : ℕ) where
 
     pub path_written : (q : List ℕ) → 0 < length (put_mid 1 (length path - 1) path q)
     path_written q = let e = ap length (put_tail 1 path q) in omega (arith, length-append (take 1 path) q, length-take-le 1 path path_left)
-
-    -- the lent bytes after the call
-    pub path_long : (q : List ℕ) → length q ≡ length (tail 1 path) → length (put_mid 1 (length path - 1) path q) ≡ length path
-    path_long q e = ap length (put_tail 1 path q) ∙ length-append (take 1 path) q ∙ omega (arith, path_left, length_tail 1 path, length-take-le 1 path path_left)
 
     module _ (w n : ℕ) (q : List ℕ) (r : ControlFlow Site ℕ) (h : Searched (first_site w (tree_at (tail by ws))) n (tail 1 path) q r) where
       pub child_none : (m : ℕ) (byte : ℕ) → r ≡ Continue m → Searched (map (below byte) (first_site w (tree_at (tail by ws)))) n path (put_mid 1 (length path - 1) path q) (Continue m)
@@ -365,4 +358,4 @@ pub ruleset searching = (node_inside, none_words, leaf_searched, child_leads, ch
 
 pub ruleset from_right = (none_words, right_leads, right_depth, right_first, right_inside, two_taken, two_short, two_fits, two_whole, two_arity, two_place, right_found, two_root)
 
-pub ruleset in_child = (part_falls, tail_short, by_scaled, path_left, path_deep, path_written, path_long, child_none, levels_fit, child_found)
+pub ruleset in_child = (part_falls, tail_short, path_left, path_deep, path_written, child_none, levels_fit, child_found)
