@@ -24,14 +24,14 @@ unfolding copied
 copied_length w a e ws h l = length-take-le (e - a) (drop a ws) (omega (arith, length-drop a ws))
 
 module _ (w : ℕ) (part before first : List ℕ) where
-  pub join_laid : (k c : ℕ) → Laid before first (k ∷ 0 ∷ []) → (second third : List ℕ) → Laid (tail 2 first) second (copied w part)
+  pub join_laid : (k c len : ℕ) → len ≡ length part → Laid before first (k ∷ 0 ∷ []) → (second third : List ℕ) → Laid (tail 2 first) second (copied w part)
       → let v = put_mid 2 (length first - 2) first second in
-      let last = 2 + length part in
+      let last = 2 + len in
       Laid (tail last v) third (0 ∷ c ∷ []) → Laid before (put_mid last (length v - last) v third) (((k ∷ 0 ∷ []) ++ copied w part) ++ (0 ∷ c ∷ []))
   unfolding copied
-  join_laid k c p second third q r =
-      let e : 2 + length part ≡ length ((k ∷ 0 ∷ []) ++ part) = omega arith in
-      laid_on before _ ((k ∷ 0 ∷ []) ++ part) (laid_on before first (k ∷ 0 ∷ []) p 2 refl second part q) (2 + length part) e third (0 ∷ c ∷ []) r
+  join_laid k c len e p second third q r =
+      let f : 2 + len ≡ length ((k ∷ 0 ∷ []) ++ part) = omega arith in
+      laid_on before _ ((k ∷ 0 ∷ []) ++ part) (laid_on before first (k ∷ 0 ∷ []) p 2 refl second part q) (2 + len) f third (0 ∷ c ∷ []) r
 
 module _ (w : ℕ) (node before first : List ℕ) where
   pub de_morgan_laid : (k d right end : ℕ) → d ≡ dual_number k → 4 ≤ right → right ≤ length node → Laid before first (d ∷ 0 ∷ [])

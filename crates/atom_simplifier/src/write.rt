@@ -108,7 +108,7 @@ pub(crate) fn move_down(ws: &mut [u64], by: usize, len: usize)
 }
 
 // The node's kind over the part of `len` words at `at` and the constant c, in the place of the node.
-#[tactic(auto, using(crate::proofs::InPlaceLaws::joining))]
+#[tactic(auto, using(crate::proofs::InPlaceLaws::join_moved))]
 fn join_down(node: &mut [u64], at: usize, len: usize, c: u64)
     requires { (2 ≤ at) × (at + len ≤ length node.old) × (4 + len ≤ length node.old) }
     ensures { Laid node.old node.new (((get_or node.old 0 0 ∷ 0 ∷ []) ++ part at (at + len) node.old) ++ (0 ∷ c ∷ [])) }
