@@ -29,9 +29,7 @@ use Rattle.rewriting.specs.EndLaws.{Ends, done, no_site, leaf_still, ends_left, 
 use Rattle.rewriting.specs.NodesLaws.{ends_nodes}
 use Rattle.rewriting.specs.ChainLaws.{count_small}
 use Rattle.atom_simplifier.specs.Promises.{loaded, Ready, EndsAt, Loaded, LeftDone, HasLeft, Comes, IsBuilt, RightBuilt}
-use Rattle.atom_simplifier.proofs.OperandLaws.{arity_one, arity_two}
-use Rattle.atom_simplifier.proofs.SearchLaws.{node_is, u, b, both_are, two_length, right_starts, right_inside, front_inside}
-use Rattle.atom_simplifier.proofs.SettleLaws.{one_tree, one_ready, one_arity, two_tree, two_ready, two_arity, two_right}
+use Rattle.atom_simplifier.proofs.SettleLaws.{front_inside, one_tree, one_ready, one_arity, two_tree, two_ready, two_arity, two_right}
 
 -- ---- `load`
 

@@ -7,7 +7,7 @@ ghost use Rattle.expr.specs.Outcome.{accepted, mapped};
 ghost use Rattle.expr.specs.Expr.{encode};
 ghost use Rattle.expr.specs.Parse.{arity_of};
 ghost use Rattle.expr.specs.Parts.{tail, part, Laid};
-ghost use Rattle.expr.specs.Front.{Whole, tree_at, left_of};
+ghost use Rattle.expr.specs.Front.{tree_at, left_of};
 ghost use Rattle.rewriting.specs.AtomSimplifier.{not, local_rewrite};
 ghost use Rattle.rewriting.specs.Measures.{and_or, pairs};
 ghost use Rattle.atom_simplifier.specs.Calls.{chain_admitted};
@@ -114,13 +114,13 @@ impl Fold for Counting {
     }
 }
 
-// What a node over two children becomes; the right one is at `right`.
+// What a node over two children without a site becomes; the right one is at `right`.
 fn two_rewrite(node: &[u64], right: usize, len: usize, width: Width) -> Option<Decision>
-    requires { (len ≤ length node.now) × (len ≤ 1024) × Whole (part 0 len node.now) × (arity_of (get_or node.now 0 0) ≡ accepted 2) × (right ≡ 2 + length (encode (left_of (tree_at (part 0 len node.now))))) }
+    requires { Ready width.bits node.now len × (arity_of (get_or node.now 0 0) ≡ accepted 2) × (right ≡ 2 + length (encode (left_of (tree_at node.now)))) }
     ensures { Decides (part 0 len node.now) result (local_rewrite width.bits (tree_at (part 0 len node.now))) }
 {
     let node = Tree {
-        words: &node[..len],
+        words: &node[0..len],
     };
     local::binary_rewrite(Operands { node, right }, width)
 }
@@ -222,7 +222,7 @@ fn settle_one(node: &mut [u64], len: usize, width: Width) -> Settled
     ensures { EndsAt width.bits (tree_at node.old) len node.old node.new result.len result.count }
 {
     let tree = Tree {
-        words: &node[..len],
+        words: &node[0..len],
     };
     let decided = local::root_rewrite(tree, width);
     rewrite_one(node, decided, len, width)
