@@ -115,6 +115,7 @@ impl Fold for Counting {
 }
 
 // What a node over two children without a site becomes; the right one is at `right`.
+#[tactic(auto, using(crate::proofs::SettleLaws::ready_tree))]
 fn two_rewrite(node: &[u64], right: usize, len: usize, width: Width) -> Option<Decision>
     requires { Ready width.bits node.now len × (arity_of (get_or node.now 0 0) ≡ accepted 2) × (right ≡ 2 + length (encode (left_of (tree_at node.now)))) }
     ensures { Decides (part 0 len node.now) result (local_rewrite width.bits (tree_at (part 0 len node.now))) }

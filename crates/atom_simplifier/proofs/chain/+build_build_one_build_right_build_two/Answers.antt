@@ -8,12 +8,6 @@ ruleset build_laws = (basics, building)
 pub build-load-requires : goal.build-load-requires
 build-load-requires t c = search build_laws
 
-pub build-bounds-ws-0 : goal.build-bounds-ws-0
-build-bounds-ws-0 t c = search build_laws
-
-pub build-unwrap-requires : goal.build-unwrap-requires
-build-unwrap-requires t c = search build_laws
-
 pub build-returns-in-Zero : goal.build-returns-in-Zero
 build-returns-in-Zero t c = search build_laws
 
