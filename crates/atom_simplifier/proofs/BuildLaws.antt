@@ -233,7 +233,7 @@ module _ (ws : List ℕ) (s : Starts ws) (e : arity_of (get_or ws 0 0) ≡ accep
     two_length = ap (λ (t : Expr). length (encode t)) both_are ∙ omega (arith, c, length-append (encode (tree_at (tail 2 ws))) (encode (tree_at (tail right ws))))
 
 module _ (w : ℕ) (ws : List ℕ) (s : Starts ws) (e : arity_of (get_or ws 0 0) ≡ accepted 2) (first : List ℕ) (l : Loaded w ws first) (room : length (encode (tree_at ws)) ≤ length first) where
-  kind : Binary
+  abbrev kind : Binary
   kind = (pair ws s e).kind
 
   operand_zero : get_or ws 1 0 ≡ 0

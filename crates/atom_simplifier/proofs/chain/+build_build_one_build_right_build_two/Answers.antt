@@ -25,6 +25,9 @@ build_one-slice_bounds-build-count-2 t c = search build_one_laws
 pub build_one-slice_bounds-build-start-2 : goal.build_one-slice_bounds-build-start-2
 build_one-slice_bounds-build-start-2 t c = search build_one_laws
 
+pub build_one-invariant_of-build : goal.build_one-invariant_of-build
+build_one-invariant_of-build t c = record { leads = search build_one_laws; short = search build_one_laws }
+
 pub build_one-build-child-requires : goal.build_one-build-child-requires
 build_one-build-child-requires t c = search build_one_laws
 
@@ -59,6 +62,9 @@ build_two-slice_bounds-build-count-2 t c = search build_two_laws
 pub build_two-slice_bounds-build-start-2 : goal.build_two-slice_bounds-build-start-2
 build_two-slice_bounds-build-start-2 t c = search build_two_laws
 
+pub build_two-invariant_of-build : goal.build_two-invariant_of-build
+build_two-invariant_of-build t c = record { leads = search build_two_laws; short = search build_two_laws }
+
 pub build_two-build-left-requires : goal.build_two-build-left-requires
 build_two-build-left-requires t c = search build_two_laws
 
@@ -73,6 +79,9 @@ build_two-slice_bounds-build_right-count t c = search build_two_laws
 
 pub build_two-slice_bounds-build_right-start : goal.build_two-slice_bounds-build_right-start
 build_two-slice_bounds-build_right-start t c = search build_two_laws
+
+pub build_two-invariant_of-build_right : goal.build_two-invariant_of-build_right
+build_two-invariant_of-build_right t c = record { leads = search build_two_laws; short = search build_two_laws }
 
 pub build_two-build_right-right-requires : goal.build_two-build_right-right-requires
 build_two-build_right-right-requires t c = search build_two_laws
