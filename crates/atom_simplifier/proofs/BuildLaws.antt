@@ -31,11 +31,7 @@ use Rattle.rewriting.specs.ChainLaws.{count_small}
 use Rattle.atom_simplifier.specs.Promises.{loaded, Ready, EndsAt, Loaded, LeftDone, HasLeft, Comes, IsBuilt, RightBuilt}
 use Rattle.atom_simplifier.proofs.SettleLaws.{front_inside, one_tree, one_ready, one_arity, two_tree, two_ready, two_arity, two_right}
 
--- ---- `load`
-
-pub node_loaded : (w kind operand : ℕ) (before after : List ℕ) → Laid before after (kind ∷ operand ∷ []) → Laid before after (loaded w kind operand)
-unfolding loaded
-node_loaded w kind operand before after l = l
+-- ---- the node's own words
 
 module _ (w : ℕ) (ws before first : List ℕ) (l : Laid before first (loaded w (get_or ws 0 0) (get_or ws 1 0))) where
   pub is_loaded : Loaded w ws first

@@ -42,6 +42,7 @@ pub(crate) struct Pairs {
 }
 
 // How many words the tree has that a node has come to, and how many rewrites it took.
+// No struct with methods holds the words and their number: behind a field lent `&mut work[at..]` the check knows only a length ('no proof of EndsAt').
 #[derive(Clone, Copy)]
 pub(crate) struct Settled {
     len: usize,
@@ -251,6 +252,7 @@ fn settle_operand(work: &mut [u64], from: usize, len: usize, width: Width) -> Se
 }
 
 // The only place where a node of the input is read into the work: its two words as they stand, whatever the width.
+#[tactic(auto, unfolding(crate::specs::Promises::loaded))]
 fn load(ws: &[u64], width: Width, work: &mut [u64])
     requires { (2 ≤ length ws.now) × (2 ≤ length work.old) }
     ensures { Laid work.old work.new (loaded width.bits (get_or ws.now 0 0) (get_or ws.now 1 0)) }
