@@ -5,7 +5,7 @@ use Prim.Native.Nat.{ℕ, ◌+◌, ◌*◌, ◌-◌, ◌≤◌, ◌<◌}
 use native.Mathlib.Omega.{arith}
 use lib.Dec.{T}
 use lib.ListN.{length, take, drop, get_or, length-append}
-use lib.Seq.{take_at}
+use lib.Seq.{take_at, drop-drop}
 use mir.Facts.{yes_and}
 use mir.Syntax.{w64}
 use mir.Val.{Fits}
@@ -19,25 +19,19 @@ use Rattle.expr.specs.ExprLaws.{nodes_pos, length_encode}
 use Rattle.expr.specs.Parse.{arity_of, operand_ok, operands_ok}
 use Rattle.expr.specs.Answers.{children_of}
 use Rattle.expr.specs.Parts.{tail, Laid}
-use Rattle.expr.specs.TailLaws.{length_tail}
-use Rattle.expr.specs.Front.{Starts, tree_at, left_of}
-use Rattle.expr.specs.FrontLaws.{UnaryNode, BinaryNode, leaf_node, has_node, has_kind, child_starts, has_arity, known_arity}
-use Rattle.expr.specs.PartLaws.{tail_short, starts_front}
+use Rattle.expr.specs.TailLaws.{tail_drop, length_tail}
+use Rattle.expr.specs.Front.{Front, Starts, tree_at, left_of}
+use Rattle.expr.specs.FrontLaws.{UnaryNode, BinaryNode, leaf_node, unary_node, binary_node, has_node}
+use Rattle.expr.specs.PartLaws.{tail_short, front_tree, starts_front, starts_lead, lead_starts}
 use Rattle.expr.specs.LentLaws.{put_tail, laid_length}
 use Rattle.rewriting.specs.AtomSimplifier.{first_rewrite}
 use Rattle.rewriting.specs.EndLaws.{Ends, done, no_site, leaf_still, ends_left, ends_right, ends_unary}
 use Rattle.rewriting.specs.NodesLaws.{ends_nodes}
 use Rattle.rewriting.specs.ChainLaws.{count_small}
 use Rattle.atom_simplifier.specs.Promises.{loaded, Ready, EndsAt, Loaded, LeftDone, HasLeft, Comes, IsBuilt, RightBuilt}
-use Rattle.atom_simplifier.proofs.OperandLaws.{arity_one, arity_two}
-use Rattle.atom_simplifier.proofs.SearchLaws.{node_is, u, b, both_are, two_length, right_starts, right_inside, front_inside}
-use Rattle.atom_simplifier.proofs.SettleLaws.{one_tree, one_ready, one_arity, two_tree, two_ready, two_arity, two_right}
+use Rattle.atom_simplifier.proofs.SettleLaws.{front_inside, one_tree, one_ready, one_arity, two_tree, two_ready, two_arity, two_right}
 
--- ---- `load`
-
-pub node_loaded : (w kind operand : ℕ) (before after : List ℕ) → Laid before after (kind ∷ operand ∷ []) → Laid before after (loaded w kind operand)
-unfolding loaded
-node_loaded w kind operand before after l = l
+-- ---- the node's own words
 
 module _ (w : ℕ) (ws before first : List ℕ) (l : Laid before first (loaded w (get_or ws 0 0) (get_or ws 1 0))) where
   pub is_loaded : Loaded w ws first
@@ -74,6 +68,16 @@ module _ (ws : List ℕ) (s : Starts ws) where
 -- an end has no more words than its tree
 ends_short : (w : ℕ) (ws before after : List ℕ) (read len count : ℕ) → IsBuilt w ws before after read len count → len ≤ read
 ends_short w ws before after read len count i = omega (arith, i.comes.len_is, i.read_is, length_encode i.comes.tree, length_encode (tree_at ws), ends_nodes w i.comes.ends)
+
+-- ---- a node, as its arity tells
+
+-- of the children that a walk finds
+module _ (ws : List ℕ) (v : Arity) (h : accepted (children_of v) ≡ arity_of (get_or ws 0 0)) where
+  pub arity_one : v ≡ arity.One → arity_of (get_or ws 0 0) ≡ accepted 1
+  arity_one e = sym h ∙ ap (λ (a : Arity). accepted (children_of a)) e
+
+  pub arity_two : v ≡ arity.Two → arity_of (get_or ws 0 0) ≡ accepted 2
+  arity_two e = sym h ∙ ap (λ (a : Arity). accepted (children_of a)) e
 
 -- ---- a leaf
 
@@ -117,14 +121,14 @@ built_before w ws before first after read len count e i = record {
 -- ---- a node over one child
 
 module _ (w : ℕ) (ws : List ℕ) (s : Starts ws) (e : arity_of (get_or ws 0 0) ≡ accepted 1) (first : List ℕ) (l : Loaded w ws first) where
-  abbrev node : UnaryNode ws (tree_at ws)
-  node = u ws s arity.One (sym e) refl
+  node : UnaryNode ws (tree_at ws)
+  node = unary_node ws arity.One (sym e) (tree_at ws) refl (starts_front ws s)
 
   is : tree_at ws ≡ unary node.kind (tree_at (tail 2 ws))
-  is = node_is ws s arity.One (sym e) refl
+  is = node.is ∙ ap (unary node.kind) (sym (front_tree (tail 2 ws) node.child node.below))
 
   pub child_begins : Starts (tail 2 ws)
-  child_begins = child_starts ws s arity.One (sym e) refl
+  child_begins = record { tree = node.child; front = node.below }
 
   pub child_room : length (encode (tree_at ws)) ≤ length first → length (encode (tree_at (tail 2 ws))) ≤ length (tail 2 first)
   unfolding encode
@@ -197,16 +201,40 @@ module _ (w : ℕ) (ws : List ℕ) (s : Starts ws) (e : arity_of (get_or ws 0 0)
 
 -- ---- a node over two children
 
-module _ (w : ℕ) (ws : List ℕ) (s : Starts ws) (e : arity_of (get_or ws 0 0) ≡ accepted 2) (first : List ℕ) (l : Loaded w ws first) (room : length (encode (tree_at ws)) ≤ length first) where
-  abbrev pair : BinaryNode ws (tree_at ws)
-  pair = b ws s e
+module _ (ws : List ℕ) (s : Starts ws) (e : arity_of (get_or ws 0 0) ≡ accepted 2) where
+  pair : BinaryNode ws (tree_at ws)
+  pair = binary_node ws arity.Two (sym e) (tree_at ws) refl (starts_front ws s)
 
-  operand_zero : get_or ws 1 0 ≡ 0
-  unfolding encode
-  operand_zero = let f = starts_front ws s in ap (λ (v : List ℕ). get_or v 1 0) (f.words ∙ ap (λ (t : Expr). encode t ++ f.rest) pair.is)
+  left_is : tree_at (tail 2 ws) ≡ pair.left
+  left_is = front_tree (tail 2 ws) pair.left pair.left_below
 
   pub left_begins : Starts (tail 2 ws)
   left_begins = record { tree = pair.left; front = pair.left_below }
+
+  module _ (right : ℕ) (c : right ≡ 2 + length (encode (tree_at (tail 2 ws)))) where
+    right_front : Front (tail right ws) pair.right
+    right_front =
+        let n = length (encode pair.left) in
+        let k : right ≡ 2 + n = c ∙ ap (λ (t : Expr). 2 + length (encode t)) left_is in
+        let tails : tail n (tail 2 ws) ≡ tail right ws =
+        tail_drop n (tail 2 ws) ∙ ap (drop n) (tail_drop 2 ws) ∙ drop-drop n 2 ws ∙ ap (λ (i : ℕ). drop i ws) (sym k) ∙ sym (tail_drop right ws)
+        in
+        subst (λ (l : List ℕ). Front l pair.right) tails pair.right_below
+
+    both_are : tree_at ws ≡ binary pair.kind (tree_at (tail 2 ws)) (tree_at (tail right ws))
+    both_are = pair.is ∙ ap₂ (binary pair.kind) (sym left_is) (sym (front_tree (tail right ws) pair.right right_front))
+
+    two_length : length (encode (tree_at ws)) ≡ right + length (encode (tree_at (tail right ws)))
+    unfolding encode
+    two_length = ap (λ (t : Expr). length (encode t)) both_are ∙ omega (arith, c, length-append (encode (tree_at (tail 2 ws))) (encode (tree_at (tail right ws))))
+
+module _ (w : ℕ) (ws : List ℕ) (s : Starts ws) (e : arity_of (get_or ws 0 0) ≡ accepted 2) (first : List ℕ) (l : Loaded w ws first) (room : length (encode (tree_at ws)) ≤ length first) where
+  abbrev kind : Binary
+  kind = (pair ws s e).kind
+
+  operand_zero : get_or ws 1 0 ≡ 0
+  unfolding encode
+  operand_zero = let f = starts_front ws s in ap (λ (v : List ℕ). get_or v 1 0) (f.words ∙ ap (λ (t : Expr). encode t ++ f.rest) (pair ws s e).is)
 
   pub left_room : length (encode (tree_at (tail 2 ws))) ≤ length (tail 2 first)
   left_room = omega (arith, two_length ws s e (2 + length (encode (tree_at (tail 2 ws)))) refl, length_tail 2 first)
@@ -221,10 +249,10 @@ module _ (w : ℕ) (ws : List ℕ) (s : Starts ws) (e : arity_of (get_or ws 0 0)
     abbrev half : List ℕ
     half = put_mid 2 (length first - 2) first second
 
-    half_is : half ≡ binary_number pair.kind ∷ 0 ∷ (encode i.comes.tree ++ i.comes.rest)
+    half_is : half ≡ binary_number kind ∷ 0 ∷ (encode i.comes.tree ++ i.comes.rest)
     half_is =
         put_tail 2 first second
-        ∙ ap₂ (λ (x y : List ℕ). x ++ y) (ap (take 2) (head w ws first l) ∙ ap₂ (λ (k o : ℕ). k ∷ o ∷ []) pair.number_is operand_zero) i.comes.words
+        ∙ ap₂ (λ (x y : List ℕ). x ++ y) (ap (take 2) (head w ws first l) ∙ ap₂ (λ (k o : ℕ). k ∷ o ∷ []) (pair ws s e).number_is operand_zero) i.comes.words
 
     half_long : length half ≡ length first
     half_long = ap length half_is ∙ omega (arith, ap length i.comes.words, i.comes.long, length_tail 2 first, head_long w ws first l)
@@ -233,10 +261,10 @@ module _ (w : ℕ) (ws : List ℕ) (s : Starts ws) (e : arity_of (get_or ws 0 0)
     less = ends_short w (tail 2 ws) (tail 2 first) second read n count i
 
     pub right_begins : Starts (tail (2 + read) ws)
-    right_begins = right_starts ws s e (2 + read) from
+    right_begins = record { tree = (pair ws s e).right; front = right_front ws s e (2 + read) from }
 
     pub from_inside : 2 + read ≤ length ws
-    from_inside = right_inside ws s e (2 + read) from
+    from_inside = omega (arith, lengths, tree_room ws s)
 
     pub from_fits : length ws ≤ 1024 → Fits w64 (2 + read)
     from_fits h = omega (arith, from_inside)
@@ -247,11 +275,11 @@ module _ (w : ℕ) (ws : List ℕ) (s : Starts ws) (e : arity_of (get_or ws 0 0)
     pub at_fits : length ws ≤ 1024 → Fits w64 (2 + n)
     at_fits h = omega (arith, from_inside, less)
 
-    left_done : LeftDone w pair.kind i.comes.tree half (2 + n)
+    left_done : LeftDone w kind i.comes.tree half (2 + n)
     left_done = record { rest = i.comes.rest; words = half_is; at_is = omega (arith, i.comes.len_is); operands = i.comes.operands; still = no_site w i.comes.ends }
 
     pub has_left : HasLeft w half (2 + n)
-    has_left = record { kind = pair.kind; left = i.comes.tree; done = left_done }
+    has_left = record { kind = kind; left = i.comes.tree; done = left_done }
 
     pub right_room : 2 + n + length (encode (tree_at (tail (2 + read) ws))) ≤ length half
     right_room = omega (arith, half_long, lengths, room, less)
@@ -260,13 +288,13 @@ module _ (w : ℕ) (ws : List ℕ) (s : Starts ws) (e : arity_of (get_or ws 0 0)
     right_short h = omega (arith, lengths, tree_room ws s, less)
 
     module _ (after : List ℕ) (read₂ m count₂ : ℕ) (j : RightBuilt w (tail (2 + read) ws) (2 + n) half after read₂ m count₂) where
-      end : Comes w (binary pair.kind i.comes.tree (tree_at (tail (2 + read) ws))) half after m count₂
-      end = j.comes pair.kind i.comes.tree left_done
+      end : Comes w (binary kind i.comes.tree (tree_at (tail (2 + read) ws))) half after m count₂
+      end = j.comes kind i.comes.tree left_done
 
       all_two : Ends w (tree_at ws) end.tree (count + count₂)
       all_two =
           subst (λ (t : Expr). Ends w t end.tree (count + count₂)) (sym (both_are ws s e (2 + read) from))
-          (ends_left w pair.kind (tree_at (tail 2 ws)) (tree_at (tail (2 + read) ws)) i.comes.tree end.tree count count₂ i.comes.ends end.ends)
+          (ends_left w kind (tree_at (tail 2 ws)) (tree_at (tail (2 + read) ws)) i.comes.tree end.tree count count₂ i.comes.ends end.ends)
 
       pub two_read_fits : length ws ≤ 1024 → Fits w64 (2 + read + read₂)
       two_read_fits h = omega (arith, j.read_is, lengths, tree_room ws s)
@@ -391,10 +419,10 @@ part_right_falls ws s from m e h = omega (arith, length_tail from ws, has_node w
 pub two_least : (n : ℕ) → 2 ≤ 2 + n
 two_least n = omega arith
 
-pub ruleset building = (has_node, has_kind, own_room, is_loaded, loaded_long, loaded_room, leaf_built, arity_one, arity_two, built_before, has_arity, known_arity, node_falls)
+pub ruleset building = (lead_starts, has_node, own_room, is_loaded, loaded_long, loaded_room, leaf_built, arity_one, arity_two, built_before, node_falls)
 
-pub ruleset building_one = (has_node, head_long, child_begins, tail_short, child_room, child_ready, child_arity, child_len_fits, child_read_fits, child_count_fits, one_long, one_built, part_falls, two_least)
+pub ruleset building_one = (lead_starts, starts_lead, has_node, head_long, child_begins, tail_short, child_room, child_ready, child_arity, child_len_fits, child_read_fits, child_count_fits, one_long, one_built, part_falls, two_least)
 
 pub ruleset building_right = (place_inside, behind_room, place_scaled, over_fits, over_ready, over_arity, over_right, right_count_fits, right_long, right_built, right_falls)
 
-pub ruleset building_two = (has_node, head_long, left_begins, tail_short, left_room, right_begins, from_inside, from_fits, from_scaled, at_fits, has_left, right_room, right_short, two_read_fits, two_count_fits, two_long, two_built, part_falls, part_right_falls, two_least)
+pub ruleset building_two = (lead_starts, starts_lead, has_node, head_long, left_begins, tail_short, left_room, right_begins, from_inside, from_fits, from_scaled, at_fits, has_left, right_room, right_short, two_read_fits, two_count_fits, two_long, two_built, part_falls, part_right_falls, two_least)

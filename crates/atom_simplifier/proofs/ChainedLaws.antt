@@ -1,32 +1,29 @@
 -- The public chain: what is checked, the end tree and the zeros behind it, and the whole promise. Assumes nothing.
 use mathlib.Core.Path.{◌≡◌, refl, sym, ap, ap₂, subst, ◌∙◌}
+use mathlib.Core.Bool.{false}
 use mathlib.Core.List.{List, ◌++◌}
-use Prim.Native.Nat.{ℕ, ◌+◌, ◌*◌, ◌-◌, ◌/◌, ◌≤◌, ◌<◌}
+use Prim.Native.Nat.{ℕ, ◌+◌, ◌*◌, ◌-◌, ◌/◌, ◌≤◌}
 use native.Mathlib.Omega.{arith}
+use Rattle.std.specs.Prelude.{ltb, if◌then◌else◌}
+use Rattle.std.proofs.Common.{ltb-false}
 use lib.ListN.{length, take, replicate, length-append, length-replicate}
 use lib.Seq.{take_at}
-use mir.Syntax.{w64}
-use mir.Val.{Fits}
 use borrow.Rule.Slice.PartMut.{put_mid}
 use Rattle.expr.specs.declared.refusal.Reason.{Reason}
 use Rattle.expr.specs.Refusals.{refusal}
-use Rattle.expr.specs.Outcome.{Outcome, refused, accepted, mapped}
-use Rattle.expr.specs.OutcomeLaws.{same_answer, mapped_accepted, Made, mapped_made, refused_then}
+use Rattle.expr.specs.Outcome.{Outcome, refused, accepted}
+use Rattle.expr.specs.OutcomeLaws.{same_answer, else_came, then_accepted, then_refused}
 use Rattle.expr.specs.Expr.{Expr, encode, nodes}
 use Rattle.expr.specs.ExprLaws.{length_encode}
-use Rattle.expr.specs.Parse.{Accepts, parse}
+use Rattle.expr.specs.Parse.{Accepts}
 use Rattle.expr.specs.ParseLaws.{parse_sound, parse_encode}
 use Rattle.expr.specs.Parts.{tail}
 use Rattle.expr.specs.TailLaws.{length_tail}
-use Rattle.expr.specs.Front.{Front, Starts, tree_at}
-use Rattle.expr.specs.FrontLaws.{parse_front}
-use Rattle.expr.specs.PartLaws.{front_tree}
+use Rattle.expr.specs.Front.{tree_at}
+use Rattle.expr.specs.Room.{room_for}
 use Rattle.expr.specs.LentLaws.{put_tail}
-use Rattle.width.specs.CheckedLaws.{too_little, enough}
 use Rattle.value.specs.Value.{one_width_of}
 use Rattle.value.specs.ValueLaws.{OneWidth, one_width_sound, one_width_complete}
-use Rattle.rewriting.specs.Measures.{D}
-use Rattle.rewriting.specs.MeasureLaws.{D_small}
 use Rattle.rewriting.specs.EndLaws.{Ends, no_site}
 use Rattle.rewriting.specs.NodesLaws.{ends_nodes}
 use Rattle.rewriting.specs.ChainLaws.{ends_listed, ends_count, no_first_site, ends_lent, ends_value, ends_uniform, ends_valid, ends_depth, ends_variables}
@@ -88,108 +85,61 @@ chained w widths t u k ws after n o v s e f =
 -- ---- the call
 
 module _ (ws : List ℕ) (w : ℕ) (widths : List ℕ) where
-  pub chain_turned_down : (r : Reason) → refused r ≡ mapped encode (one_width_of ws w widths) → (work : List ℕ) → ChainGives (chain_admitted ws w widths (length work)) w widths work work (refused r)
+  pub chain_turned_down : (r : Reason) → refused r ≡ one_width_of ws w widths → (work : List ℕ) → ChainGives (chain_admitted ws w widths (length work)) w widths work work (refused r)
   unfolding ChainIs chain_admitted
   chain_turned_down r e work = record {
     is =
         subst (λ (a : Outcome Expr). ChainIs a w widths work work (refused r))
-        (refused_then encode (with_work (length work)) (one_width_of ws w widths) e) (refl, refl);
+        (sym (then_refused (sym e) (with_work (length work)))) (refl, refl);
   }
 
-  module _ (vs : List ℕ) (e : accepted vs ≡ mapped encode (one_width_of ws w widths)) where
-    m : Made encode (one_width_of ws w widths) vs
-    m = mapped_made encode (one_width_of ws w widths) e
-
-    abbrev t : Expr
-    t = m.answer
-
+  module _ (t : Expr) (e : accepted t ≡ one_width_of ws w widths) (v : Pairs) (p : v ≡ counted t) where
     of_one_width : OneWidth ws w widths t
-    of_one_width = one_width_sound ws w widths t m.was
+    of_one_width = one_width_sound ws w widths t (sym e)
 
     accepts : Accepts ws t
     accepts = parse_sound ws t of_one_width.parsed
 
-    front : Front ws t
-    front = parse_front ws t of_one_width.parsed
+    -- the room that is asked for
+    admitted : (room : ℕ) → chain_admitted ws w widths room ≡ room_for (λ u. 2 * (nodes u + v.pairs)) room t
+    unfolding chain_admitted room_for counted
+    admitted room =
+        then_accepted (sym e) (with_work room)
+        ∙ ap (λ (y : Pairs). if ltb room (2 * (nodes t + y.pairs)) then refused (refusal 9) else accepted t) (sym p)
 
-    tree_is : tree_at ws ≡ t
-    tree_is = front_tree ws t front
+    pub work_too_small : (r : Reason) (work : List ℕ) → refused r ≡ room_for (λ u. 2 * (nodes u + v.pairs)) (length work) t → ChainGives (chain_admitted ws w widths (length work)) w widths work work (refused r)
+    unfolding ChainIs
+    work_too_small r work f = record { is = subst (λ (a : Outcome Expr). ChainIs a w widths work work (refused r)) (f ∙ sym (admitted (length work))) (refl, refl) }
 
-    long : length ws ≡ 2 * nodes t
-    long = ap length accepts.words ∙ length_encode t
+    module _ (xs work : List ℕ) (f : accepted (tree_at xs) ≡ room_for (λ u. 2 * (nodes u + v.pairs)) (length work) t) (vs : List ℕ) (g : vs ≡ xs) where
+      roomy : (ltb (length work) (2 * (nodes t + v.pairs)) ≡ false) × (accepted t ≡ accepted (tree_at xs))
+      unfolding room_for
+      roomy = else_came (accepted t) (refusal 9) (ltb (length work) (2 * (nodes t + v.pairs))) (sym f)
 
-    pub chain_starts : Starts ws
-    chain_starts = record { tree = t; front = front }
+      tree_is : tree_at vs ≡ t
+      tree_is = ap tree_at g ∙ sym (same_answer roomy.1)
 
-    pub chain_short : length ws ≤ 1024
-    chain_short = omega (arith, long, accepts.valid.count)
+      pub chain_room : length (encode (tree_at vs)) ≤ length work
+      chain_room =
+          let h = ltb-false (length work) (2 * (nodes t + v.pairs)) roomy.0 in
+          omega (arith, ap nodes tree_is, length_encode (tree_at vs))
 
-    pub chain_width : w ≤ 64
-    chain_width = of_one_width.at_most
+      -- the end tree in the work
+      module _ (b : ℕ) (z : b ≡ w) (built : List ℕ) (read len steps : ℕ) (i : IsBuilt b vs work built read len steps) where
+        ends : Ends w t i.comes.tree steps
+        ends = subst (λ (s : Expr). Ends w s i.comes.tree steps) tree_is (subst (λ (n : ℕ). Ends n (tree_at vs) i.comes.tree steps) z i.comes.ends)
 
-    read : parse vs ≡ accepted t
-    read = ap parse (sym m.made ∙ sym accepts.words) ∙ of_one_width.parsed
-
-    node_count : (n : ℕ) → accepted n ≡ mapped nodes (parse vs) → n ≡ nodes t
-    node_count n h = same_answer (h ∙ mapped_accepted read nodes)
-
-    pub chain_room : (work : List ℕ) (n more : ℕ) → accepted n ≡ mapped nodes (parse vs) → 2 * (n + more) ≤ length work → length (encode (tree_at ws)) ≤ length work
-    chain_room work n more h f = omega (arith, ap nodes tree_is, length_encode (tree_at ws), node_count n h)
-
-    -- ---- the room that is asked for
-
-    module _ (n : ℕ) (h : accepted n ≡ mapped nodes (parse vs)) (v : Pairs) (p : (u : Expr) → parse vs ≡ accepted u → v ≡ counted u) where
-      count_is : n ≡ nodes t
-      count_is = node_count n h
-
-      pairs_are : v.pairs ≡ D t
-      unfolding counted
-      pairs_are = ap (λ (y : Pairs). y.pairs) (p t read)
-
-      few : v.pairs ≤ 1048576
-      few = omega (arith, pairs_are, D_small t (omega (arith, accepts.valid.count)), accepts.valid.count)
-
-      pub sum_fits : Fits w64 (n + v.pairs)
-      sum_fits = omega (arith, few, count_is, accepts.valid.count)
-
-      pub room_fits : Fits w64 (2 * (n + v.pairs))
-      room_fits = omega (arith, few, count_is, accepts.valid.count)
-
-      need_is : 2 * (nodes t + D t) ≡ 2 * (n + v.pairs)
-      need_is = omega (arith, count_is, pairs_are)
-
-      pub work_too_small : (work : List ℕ) → length work < 2 * (n + v.pairs) → ChainGives (chain_admitted ws w widths (length work)) w widths work work (refused (refusal 9))
-      unfolding ChainIs chain_admitted
-      work_too_small work f =
-          let l : length work < 2 * (nodes t + D t) = omega (arith, need_is) in
-          record { is = subst (λ (a : Outcome Expr). ChainIs a w widths work work (refused (refusal 9))) (sym (too_little _ (length work) m.was l)) (refl, refl) }
-
-    -- ---- the end tree in the work
-
-    module _ (work built : List ℕ) (read len steps : ℕ) (i : IsBuilt w ws work built read len steps) where
-      ends : Ends w t i.comes.tree steps
-      ends = subst (λ (s : Expr). Ends w s i.comes.tree steps) tree_is i.comes.ends
-
-      pub end_scaled : Fits w64 (len * 8)
-      end_scaled = omega (arith, i.comes.len_is, length_encode i.comes.tree, ends_nodes w ends, accepts.valid.count)
-
-      pub end_inside : len ≤ length built
-      end_inside = omega (arith, i.comes.len_is, ap length i.comes.words, length-append (encode i.comes.tree) i.comes.rest)
-
-      module _ (n : ℕ) (h : accepted n ≡ mapped nodes (parse vs)) (v : Pairs) (p : (u : Expr) → parse vs ≡ accepted u → v ≡ counted u) (f : 2 * (n + v.pairs) ≤ length work) (cleared : List ℕ) (c : cleared ≡ replicate (length (tail len built)) 0) where
-        abbrev after : List ℕ
-        after = put_mid len (length built - len) built cleared
-
-        pub chain_answered : ChainGives (chain_admitted ws w widths (length work)) w widths work after (accepted (len / 2, steps))
-        unfolding ChainIs chain_admitted
-        chain_answered =
+        pub chain_answered : (cleared : List ℕ) → cleared ≡ replicate (length (tail len built)) 0
+            → ChainGives (chain_admitted ws w widths (length work)) w widths work (put_mid len (length built - len) built cleared) (accepted (len / 2, steps))
+        unfolding ChainIs
+        chain_answered cleared c =
             let u = i.comes.tree in
-            let enough-work : 2 * (nodes t + D t) ≤ length work = omega (arith, need_is n h v p) in
+            let after = put_mid len (length built - len) built cleared in
             let half : len / 2 ≡ nodes u = omega (arith, i.comes.len_is, length_encode u) in
             record {
               is =
                   subst (λ (a : Outcome Expr). ChainIs a w widths work after (accepted (len / 2, steps)))
-                  (sym (enough _ (length work) m.was enough-work)) (
+                  (roomy.1 ∙ f ∙ sym (admitted (length work))) (
                     len / 2,
                     steps,
                     refl,
@@ -199,4 +149,7 @@ module _ (ws : List ℕ) (w : ℕ) (widths : List ℕ) where
                   );
             }
 
-pub ruleset chaining = (chain_turned_down, chain_starts, chain_short, chain_width, chain_room, sum_fits, room_fits, work_too_small, end_scaled, end_inside, chain_answered)
+pub end_inside : (w : ℕ) (ws work built : List ℕ) (read len steps : ℕ) → IsBuilt w ws work built read len steps → len ≤ length built
+end_inside w ws work built read len steps i = omega (arith, i.comes.len_is, ap length i.comes.words, length-append (encode i.comes.tree) i.comes.rest)
+
+pub ruleset chaining = (chain_turned_down, chain_room, end_inside, chain_answered)

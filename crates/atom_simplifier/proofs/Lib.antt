@@ -10,7 +10,6 @@ pub mod ReplacementLaws
 pub mod ReplaceLaws
 pub mod SearchLaws
 pub mod CallLaws
-pub mod CountLaws
 pub mod SettleLaws
 pub mod TurnLaws
 pub mod BuildLaws

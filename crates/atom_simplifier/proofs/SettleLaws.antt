@@ -16,14 +16,15 @@ use Rattle.expr.specs.declared.kind.Leaf.TheVariants.{Constant}
 use Rattle.expr.specs.declared.kind.Unary.{Unary}
 use Rattle.expr.specs.declared.kind.Unary.TheVariants.{Not}
 use Rattle.expr.specs.declared.kind.Binary.{Binary}
-use Rattle.expr.specs.Expr.{Expr, unary, binary, unary_number, unary_operand, binary_number, encode, nodes}
+use Rattle.expr.specs.Expr.{Expr, leaf, unary, binary, unary_number, unary_operand, binary_number, encode, nodes}
 use Rattle.expr.specs.ExprLaws.{nodes_pos, length_encode}
 use Rattle.expr.specs.KindLaws.{number_arity}
 use Rattle.expr.specs.Parse as kinds
 use Rattle.expr.specs.Parse.{arity_of, operands_ok}
 use Rattle.expr.specs.Parts.{part, Laid}
-use Rattle.expr.specs.Front.{Front, Exactly, Whole, tree_at, left_of, right_of}
-use Rattle.expr.specs.PartLaws.{front_tree, front_part, starts_front}
+use Rattle.expr.specs.Front.{Front, Starts, Exactly, Whole, tree_at, left_of, right_of}
+use Rattle.expr.specs.FrontLaws.{front_length}
+use Rattle.expr.specs.PartLaws.{front_tree, front_part, starts_front, exact_tree, exact_whole}
 use Rattle.expr.specs.SubtreeLaws.{even_part}
 use Rattle.rewriting.specs.AtomSimplifier.{constant, not, local_rewrite, first_rewrite}
 use Rattle.rewriting.specs.ShapeLaws.{Less, over, Change, less, turned_over, local_change}
@@ -35,7 +36,6 @@ use Rattle.atom_simplifier.specs.declared.local.Decision.TheVariants as local
 use Rattle.atom_simplifier.specs.declared.local.Decision.TheVariants.{Join}
 use Rattle.atom_simplifier.specs.Promises.{Holds, Joined, Makes, Decides, Writes, Replaceable, Ready, EndsAt}
 use Rattle.atom_simplifier.proofs.DecideLaws.{not_some, none_decided, some_decided, within_inside}
-use Rattle.atom_simplifier.proofs.SearchLaws.{whole_front, same_tree, front_inside, same_word}
 
 -- the words xs, laid over words that are those of ws from `reach` on
 module _ (ws mid after xs : List ℕ) (reach n : ℕ) (l : Laid mid after xs) (e : n ≡ length xs) (h : n ≤ reach) where
@@ -59,30 +59,47 @@ ends_long w t reach before after len count e h =
 
 -- ---- the node at the front
 
+-- the first word of a tree is not that of what follows it
+pub first_word : (t : Expr) (vs : List ℕ) → get_or (encode t ++ vs) 0 0 ≡ get_or (encode t) 0 0
+unfolding encode
+first_word (leaf k) vs = refl
+first_word (unary k t) vs = refl
+first_word (binary k l r) vs = refl
+
+pub front_inside : (ws : List ℕ) → Starts ws → (n : ℕ) → n ≡ length (encode (tree_at ws)) → n ≤ length ws
+front_inside ws s n e = omega (arith, front_length ws (tree_at ws) (starts_front ws s))
+
 module _ (w : ℕ) (ws : List ℕ) (len : ℕ) (r : Ready w ws len) where
+  own : Front ws (tree_at ws)
+  own = starts_front ws r.starts
+
+  pub exact : Exactly (part 0 len ws) (tree_at ws)
+  exact = front_part ws (tree_at ws) own len r.len_is
+
   pub ready_inside : len ≤ length ws
   ready_inside = front_inside ws r.starts len r.len_is
 
   pub ready_whole : Whole (part 0 len ws)
-  ready_whole = whole_front ws r.starts len r.len_is
+  ready_whole = exact_whole (part 0 len ws) (tree_at ws) exact
 
   pub ready_arity : (n : ℕ) → arity_of (get_or ws 0 0) ≡ accepted n → arity_of (get_or (part 0 len ws) 0 0) ≡ accepted n
-  ready_arity n a = ap arity_of (same_word ws r.starts len r.len_is) ∙ a
+  ready_arity n a = ap arity_of same_word ∙ a
+    where
+      same_word : get_or (part 0 len ws) 0 0 ≡ get_or ws 0 0
+      same_word =
+          ap (λ (l : List ℕ). get_or l 0 0) exact.words ∙ sym (first_word (tree_at ws) own.rest)
+          ∙ sym (ap (λ (l : List ℕ). get_or l 0 0) own.words)
 
   pub node_tree : tree_at (part 0 len ws) ≡ tree_at ws
-  node_tree = same_tree ws r.starts len r.len_is
+  node_tree = exact_tree (part 0 len ws) (tree_at ws) exact
+
+  pub ready_short : length (part 0 len ws) ≤ 1024
+  ready_short =
+      let e : len - 0 ≡ len = omega arith in
+      omega (arith, length-take-le (len - 0) ws (omega (arith, ready_inside)), r.short)
 
   pub ready_right : (right : ℕ) → right ≡ 2 + length (encode (left_of (tree_at ws))) → right ≡ 2 + length (encode (left_of (tree_at (part 0 len ws))))
   ready_right right e = e ∙ ap (λ (t : Expr). 2 + length (encode (left_of t))) (sym node_tree)
-
-  node_length : length (part 0 len ws) ≡ len
-  node_length = let e : len - 0 ≡ len = omega arith in length-take-le (len - 0) ws (omega (arith, ready_inside)) ∙ e
-
-  pub ready_short : length (part 0 len ws) ≤ 1024
-  ready_short = omega (arith, node_length, r.short)
-
-  pub exact : Exactly (part 0 len ws) (tree_at ws)
-  exact = front_part ws (tree_at ws) (starts_front ws r.starts) len r.len_is
 
   size : len ≡ 2 * nodes (tree_at ws)
   size = r.len_is ∙ length_encode (tree_at ws)
@@ -335,24 +352,9 @@ module _ (w : ℕ) (ws : List ℕ) (len : ℕ) (r : Ready w ws len) (q : answere
       unfolding encode
       again_size = n_is joins after n wr ∙ ap (λ (v : Expr). length (encode v)) is_join.is ∙ omega (arith, length-append (encode is_join.operand) (encode (constant c)))
 
-      right_is : n - 2 ≡ 2 + length (encode (left_of (tree_at after)))
-      right_is = omega (arith, again_size, ap (λ (v : Expr). length (encode (left_of v))) again_is)
-
-      pub again_inside : n ≤ length after
-      again_inside = ready_inside w after n again_ready
-
-      pub again_whole : Whole (part 0 n after)
-      again_whole = ready_whole w after n again_ready
-
-      pub again_kind : arity_of (get_or (part 0 n after) 0 0) ≡ accepted 2
-      again_kind = ready_arity w after n again_ready 2 again_arity
-
       -- the constant's words are the last two
-      pub again_right : n - 2 ≡ 2 + length (encode (left_of (tree_at (part 0 n after))))
-      again_right = ready_right w after n again_ready (n - 2) right_is
-
-      pub again_short : length (part 0 n after) ≤ 1024
-      again_short = ready_short w after n again_ready
+      pub again_right : n - 2 ≡ 2 + length (encode (left_of (tree_at after)))
+      again_right = omega (arith, again_size, ap (λ (v : Expr). length (encode (left_of v))) again_is)
 
       pub again_falls : (k : ℕ) → len ≡ k → n < k
       again_falls k f = omega (arith, shorter joins, n_is joins after n wr)
@@ -412,6 +414,7 @@ module _ (w : ℕ) (k : Binary) (l r : Expr) (rest ws : List ℕ) (e : ws ≡ bi
   pub two_right : (n : ℕ) → n ≡ 2 + length (encode l) → n ≡ 2 + length (encode (left_of (tree_at ws)))
   two_right n f = f ∙ ap (λ (v : Expr). 2 + length (encode (left_of v))) (sym two_tree)
 
-pub ruleset settling_two = (ready_inside, ready_whole, ready_arity, ready_right, ready_short)
+-- the node's own words, as a tree
+pub ruleset ready_tree = (ready_inside, ready_whole, ready_arity, ready_right, ready_short)
 
-pub ruleset rewriting_two = (not_some, stays, two_replaceable, two_settled, join_replaceable, again_ready, again_arity, again_inside, again_whole, again_kind, again_right, again_short, again_falls, again_fits, join_settled)
+pub ruleset rewriting_two = (not_some, stays, two_replaceable, two_settled, join_replaceable, again_ready, again_arity, again_right, again_falls, again_fits, join_settled)

@@ -5,7 +5,7 @@ use mathlib.Core.List.{List, [], ◌∷◌, ◌++◌, append_assoc}
 use mathlib.Core.Option.{none}
 use Prim.Native.Nat.{ℕ, ◌+◌, ◌*◌, ◌-◌, ◌≤◌, ◌<◌}
 use native.Mathlib.Omega.{arith}
-use lib.Dec.{T}
+use lib.Dec.{T, eqb}
 use lib.ListN.{length, take, drop, get_or, set, length-append, length-drop, length-set}
 use lib.Seq.{take_at, drop_at, drop-drop, length-take-le, get_or-drop, get_or-append-add}
 use mir.Facts.{and_yes, or_yes}
@@ -16,7 +16,9 @@ use borrow.Rule.Slice.PartMut.{put_mid}
 use Rattle.expr.specs.Outcome.{accepted}
 use Rattle.expr.specs.declared.kind.Unary.{Unary}
 use Rattle.expr.specs.declared.kind.Unary.TheVariants.{Not}
+use Rattle.expr.specs.declared.kind.Leaf.TheVariants.{Constant, Variable}
 use Rattle.expr.specs.declared.kind.Binary.{Binary}
+use Rattle.expr.specs.declared.kind.Binary.TheVariants.{Add, Mul, And, Or, Xor, Concat}
 use Rattle.expr.specs.Expr.{Expr, leaf, unary, binary, binary_number, encode, nodes}
 use Rattle.expr.specs.ExprLaws.{nodes_pos, length_encode, encode_injective}
 use Rattle.expr.specs.Parse.{arity_of, operand_ok, operands_ok}
@@ -26,7 +28,7 @@ use Rattle.expr.specs.Front.{Front, Exactly, tree_at, left_of}
 use Rattle.expr.specs.PartLaws.{front_tree, starts_front}
 use Rattle.expr.specs.LentLaws.{put_tail}
 use Rattle.rewriting.specs.AtomSimplifier.{not, is_not, local_rewrite, first_rewrite}
-use Rattle.rewriting.specs.TestLaws.{not_kind→eq}
+use Rattle.rewriting.specs.TestLaws.{not_number, not_kind→eq}
 use Rattle.rewriting.specs.ShapeLaws.{Dual, and_or_lem, or_and, over, Change, less, turned_over, local_change}
 use Rattle.rewriting.specs.EndLaws.{Ends, NoneBelow, no_site, left_still, right_still, below_child, ends_right, ends_de_morgan, ends_not_not, not_not_ends}
 use Rattle.rewriting.specs.ChainLaws.{count_small}
@@ -36,14 +38,7 @@ use Rattle.atom_simplifier.specs.declared.local.Decision.{Decision}
 use Rattle.atom_simplifier.specs.declared.local.Decision.TheVariants.{DeMorgan}
 use Rattle.atom_simplifier.specs.Promises.{dual_number, Turns, Makes, Decides, Ready, Apart, Turnable, Turned, Half, HalfTurned, HalfEnds, EndsAt}
 use Rattle.atom_simplifier.proofs.DecideLaws.{not_some, some_decided}
-use Rattle.atom_simplifier.proofs.LocalLaws.{root_not, first_word}
-use Rattle.atom_simplifier.proofs.SettleLaws.{ends_long, ready_inside, ready_whole, ready_arity, ready_short, node_tree, exact, stays, one_replaceable, one_settled, covered, covers, one_tree, one_ready, one_arity, two_ready, two_tree, two_arity, two_right}
-
--- ---- `settle_one`
-
--- what is decided of a node over one child is so at every width
-pub decided_at : (w : ℕ) (node : List ℕ) (d : answered.Option Decision) → ((v : ℕ) → Decides node d (local_rewrite v (tree_at node))) → Decides node d (local_rewrite w (tree_at node))
-decided_at w node d h = h w
+use Rattle.atom_simplifier.proofs.SettleLaws.{first_word, ends_long, ready_inside, ready_whole, ready_short, node_tree, exact, stays, one_replaceable, one_settled, covered, covers, one_tree, one_ready, one_arity, two_ready, two_tree, two_arity, two_right}
 
 -- ---- `rewrite_one`
 
@@ -80,6 +75,18 @@ module _ (w : ℕ) (ws : List ℕ) (len : ℕ) (r : Ready w ws len) (q : answere
       (subst (λ (x : Decision). Makes (part 0 len ws) x m.0) e m.2) r.below r.len_is r.short
 
 -- ---- `settle_operand`
+
+root_not : (t : Expr) → is_not t ≡ eqb (get_or (encode t) 0 0) 7
+unfolding encode
+root_not (leaf (Constant c)) = refl
+root_not (leaf (Variable i)) = refl
+root_not (unary k t) = not_number k
+root_not (binary Add l r) = refl
+root_not (binary Mul l r) = refl
+root_not (binary And l r) = refl
+root_not (binary Or l r) = refl
+root_not (binary Xor l r) = refl
+root_not (binary Concat l r) = refl
 
 is_not_lem : (t : Expr) → T (is_not t) → t ≡ not (left_of t)
 is_not_lem (leaf k) h = absurd h
@@ -616,7 +623,7 @@ second_call_falls right len m e = omega arith
 
 pub ruleset rewriting_one = (not_some, stays, one_replaceable, one_settled, one_turnable, turn_falls)
 
-pub ruleset settling_one = (ready_inside, ready_whole, ready_arity, ready_short, decided_at, rewrite_falls)
+pub ruleset settling_one = (ready_inside, ready_whole, ready_short, rewrite_falls)
 
 pub ruleset settling_operand = (operand_inside, operand_long, operand_fits, inner_inside, not_not_done, free_words, not_scaled, not_fits, not_inside, not_room, not_ready, not_arity, put_inside, end_inside, operand_done, operand_kept, not_falls)
 

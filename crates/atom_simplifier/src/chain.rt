@@ -7,7 +7,7 @@ ghost use Rattle.expr.specs.Outcome.{accepted, mapped};
 ghost use Rattle.expr.specs.Expr.{encode};
 ghost use Rattle.expr.specs.Parse.{arity_of};
 ghost use Rattle.expr.specs.Parts.{tail, part, Laid};
-ghost use Rattle.expr.specs.Front.{Whole, tree_at, left_of};
+ghost use Rattle.expr.specs.Front.{tree_at, left_of};
 ghost use Rattle.rewriting.specs.AtomSimplifier.{not, local_rewrite};
 ghost use Rattle.rewriting.specs.Measures.{and_or, pairs};
 ghost use Rattle.atom_simplifier.specs.Calls.{chain_admitted};
@@ -42,6 +42,7 @@ pub(crate) struct Pairs {
 }
 
 // How many words the tree has that a node has come to, and how many rewrites it took.
+// No struct with methods holds the words and their number: behind a field lent `&mut work[at..]` the check knows only a length ('no proof of EndsAt').
 #[derive(Clone, Copy)]
 pub(crate) struct Settled {
     len: usize,
@@ -114,13 +115,14 @@ impl Fold for Counting {
     }
 }
 
-// What a node over two children becomes; the right one is at `right`.
+// What a node over two children without a site becomes; the right one is at `right`.
+#[tactic(auto, using(crate::proofs::SettleLaws::ready_tree))]
 fn two_rewrite(node: &[u64], right: usize, len: usize, width: Width) -> Option<Decision>
-    requires { (len ≤ length node.now) × (len ≤ 1024) × Whole (part 0 len node.now) × (arity_of (get_or node.now 0 0) ≡ accepted 2) × (right ≡ 2 + length (encode (left_of (tree_at (part 0 len node.now))))) }
+    requires { Ready width.bits node.now len × (arity_of (get_or node.now 0 0) ≡ accepted 2) × (right ≡ 2 + length (encode (left_of (tree_at node.now)))) }
     ensures { Decides (part 0 len node.now) result (local_rewrite width.bits (tree_at (part 0 len node.now))) }
 {
     let node = Tree {
-        words: &node[..len],
+        words: &node[0..len],
     };
     local::binary_rewrite(Operands { node, right }, width)
 }
@@ -222,7 +224,7 @@ fn settle_one(node: &mut [u64], len: usize, width: Width) -> Settled
     ensures { EndsAt width.bits (tree_at node.old) len node.old node.new result.len result.count }
 {
     let tree = Tree {
-        words: &node[..len],
+        words: &node[0..len],
     };
     let decided = local::root_rewrite(tree, width);
     rewrite_one(node, decided, len, width)
@@ -250,6 +252,7 @@ fn settle_operand(work: &mut [u64], from: usize, len: usize, width: Width) -> Se
 }
 
 // The only place where a node of the input is read into the work: its two words as they stand, whatever the width.
+#[tactic(auto, unfolding(crate::specs::Promises::loaded))]
 fn load(ws: &[u64], width: Width, work: &mut [u64])
     requires { (2 ≤ length ws.now) × (2 ≤ length work.old) }
     ensures { Laid work.old work.new (loaded width.bits (get_or ws.now 0 0) (get_or ws.now 1 0)) }

@@ -8,12 +8,6 @@ ruleset build_laws = (basics, building)
 pub build-load-requires : goal.build-load-requires
 build-load-requires t c = search build_laws
 
-pub build-bounds-ws-0 : goal.build-bounds-ws-0
-build-bounds-ws-0 t c = search build_laws
-
-pub build-unwrap-requires : goal.build-unwrap-requires
-build-unwrap-requires t c = search build_laws
-
 pub build-returns-in-Zero : goal.build-returns-in-Zero
 build-returns-in-Zero t c = search build_laws
 
@@ -30,6 +24,9 @@ build_one-slice_bounds-build-count-2 t c = search build_one_laws
 
 pub build_one-slice_bounds-build-start-2 : goal.build_one-slice_bounds-build-start-2
 build_one-slice_bounds-build-start-2 t c = search build_one_laws
+
+pub build_one-invariant_of-build : goal.build_one-invariant_of-build
+build_one-invariant_of-build t c = record { leads = search build_one_laws; short = search build_one_laws }
 
 pub build_one-build-child-requires : goal.build_one-build-child-requires
 build_one-build-child-requires t c = search build_one_laws
@@ -65,6 +62,9 @@ build_two-slice_bounds-build-count-2 t c = search build_two_laws
 pub build_two-slice_bounds-build-start-2 : goal.build_two-slice_bounds-build-start-2
 build_two-slice_bounds-build-start-2 t c = search build_two_laws
 
+pub build_two-invariant_of-build : goal.build_two-invariant_of-build
+build_two-invariant_of-build t c = record { leads = search build_two_laws; short = search build_two_laws }
+
 pub build_two-build-left-requires : goal.build_two-build-left-requires
 build_two-build-left-requires t c = search build_two_laws
 
@@ -79,6 +79,9 @@ build_two-slice_bounds-build_right-count t c = search build_two_laws
 
 pub build_two-slice_bounds-build_right-start : goal.build_two-slice_bounds-build_right-start
 build_two-slice_bounds-build_right-start t c = search build_two_laws
+
+pub build_two-invariant_of-build_right : goal.build_two-invariant_of-build_right
+build_two-invariant_of-build_right t c = record { leads = search build_two_laws; short = search build_two_laws }
 
 pub build_two-build_right-right-requires : goal.build_two-build_right-right-requires
 build_two-build_right-right-requires t c = search build_two_laws

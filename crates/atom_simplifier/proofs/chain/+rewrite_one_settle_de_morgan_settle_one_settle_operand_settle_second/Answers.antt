@@ -42,11 +42,11 @@ settle_de_morgan-returns t c = search settle_de_morgan_laws
 
 ruleset settle_one_laws = (basics, settling_one)
 
-pub settle_one-slice_bounds-unary_rewrite-end : goal.settle_one-slice_bounds-unary_rewrite-end
-settle_one-slice_bounds-unary_rewrite-end t c = search settle_one_laws
+pub settle_one-slice_bounds-tree-end : goal.settle_one-slice_bounds-tree-end
+settle_one-slice_bounds-tree-end t c = search settle_one_laws
 
-pub settle_one-unary_rewrite-decided-requires : goal.settle_one-unary_rewrite-decided-requires
-settle_one-unary_rewrite-decided-requires t c = search settle_one_laws
+pub settle_one-invariant_of-tree : goal.settle_one-invariant_of-tree
+settle_one-invariant_of-tree t c = record { whole = search settle_one_laws; short = search settle_one_laws }
 
 ruleset settle_operand_laws = (basics, settling_operand)
 
@@ -86,7 +86,7 @@ pub settle_second-settle_operand-second-requires : goal.settle_second-settle_ope
 settle_second-settle_operand-second-requires t c = search settle_second_laws
 
 pub settle_second-settle_two-top-requires : goal.settle_second-settle_two-top-requires
-settle_second-settle_two-top-requires t c = (search settle_second_laws, search settle_second_laws, search settle_second_laws, search settle_second_laws)
+settle_second-settle_two-top-requires t c = (search settle_second_laws, search settle_second_laws, search settle_second_laws)
 
 pub settle_second-returns : goal.settle_second-returns
 settle_second-returns t c = search settle_second_laws

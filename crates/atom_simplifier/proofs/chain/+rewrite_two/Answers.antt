@@ -11,17 +11,14 @@ returns-in_default t c = search laws
 pub replace-all-requires : goal.replace-all-requires
 replace-all-requires t c = search laws
 
-pub slice_bounds-operands-end : goal.slice_bounds-operands-end
-slice_bounds-operands-end t c = search laws
+pub two_rewrite-next-requires : goal.two_rewrite-next-requires
+two_rewrite-next-requires t c = search laws
 
-pub overflow_sub-operands : goal.overflow_sub-operands
-overflow_sub-operands t c = search laws
-
-pub invariant_of-operands : goal.invariant_of-operands
-invariant_of-operands t c = record { whole = search laws; two_children = search laws; right_is = search laws; short = search laws }
+pub overflow_sub-all : goal.overflow_sub-all
+overflow_sub-all t c = search laws
 
 pub rewrite_two-again-requires : goal.rewrite_two-again-requires
-rewrite_two-again-requires t c = (search laws, (search laws, search laws, search laws, search laws))
+rewrite_two-again-requires t c = (search laws, (search laws, search laws, search laws))
 
 pub replace-requires : goal.replace-requires
 replace-requires t c = search (laws, c.in_default-rewrite.not-Join)

@@ -1,24 +1,18 @@
 -- `atom_simplifier::chain::chain` meets its contract. Assumes nothing.
 use Rattle.arith.specs.NeedLaws.{basics}
-use Rattle.atom_simplifier.proofs.ChainedLaws.{chaining}
+use Rattle.atom_simplifier.proofs.ChainedLaws.{work_too_small, chaining}
 use Rattle.atom_simplifier.proofs.chain.chain.Goals as goal
 
 ruleset laws = (basics, chaining)
 
 pub returns-in_err-tree : goal.returns-in_err-tree
-returns-in_err-tree c = search laws
+returns-in_err-tree c = search (laws, c.in_err-tree.ensures.tree)
 
-pub overflow_add-nodes : goal.overflow_add-nodes
-overflow_add-nodes c = search (laws, c.in_ok-tree.ensures)
-
-pub overflow_mul-nodes : goal.overflow_mul-nodes
-overflow_mul-nodes c = search (laws, c.in_ok-tree.ensures)
-
-pub returns-then-work-nodes : goal.returns-then-work-nodes
-returns-then-work-nodes c = search (laws, c.in_ok-tree.ensures)
+pub returns-in_err-tree-2 : goal.returns-in_err-tree-2
+returns-in_err-tree-2 c = search (laws, work_too_small _ _ _ _ c.in_ok-tree.ensures.tree _ c.fold-found.ensures _ _ c.in_err-tree-2.ensures)
 
 pub build-built-requires : goal.build-built-requires
-build-built-requires c = search (laws, c.in_ok-tree.ensures)
+build-built-requires c = search (laws, c.in_ok-tree.ensures.tree, c.in_ok-tree-2.ensures)
 
 pub returns : goal.returns
-returns c = search (laws, c.in_ok-tree.ensures, c.fill.ensures.after (λ y e. e))
+returns c = search (laws, c.in_ok-tree.ensures.tree, c.in_ok-tree.ensures.width, c.in_ok-tree-2.ensures, c.fill.ensures.after (λ y e. e))
