@@ -9,7 +9,7 @@ pub returns-in_err-tree : goal.returns-in_err-tree
 returns-in_err-tree c = search (laws, c.in_err-tree.ensures.tree)
 
 pub returns-in_err-tree-2 : goal.returns-in_err-tree-2
-returns-in_err-tree-2 c = search (laws, work_too_small _ _ _ _ c.in_ok-tree.ensures.tree _ c.fold-found.ensures _ _ c.in_err-tree-2.ensures)
+returns-in_err-tree-2 c = search (laws, work_too_small _ _ _ _ c.in_ok-tree.ensures.tree _ c.fold-found.ensures, c.in_err-tree-2.ensures)
 
 pub build-built-requires : goal.build-built-requires
 build-built-requires c = search (laws, c.in_ok-tree.ensures.tree, c.in_ok-tree-2.ensures)
