@@ -21,7 +21,7 @@ use Rattle.expr.specs.Answers.{children_of}
 use Rattle.expr.specs.Parts.{tail, Laid}
 use Rattle.expr.specs.TailLaws.{tail_drop, length_tail}
 use Rattle.expr.specs.Front.{Front, Starts, tree_at, left_of}
-use Rattle.expr.specs.FrontLaws.{UnaryNode, BinaryNode, leaf_node, unary_node, binary_node, has_node}
+use Rattle.expr.specs.FrontLaws.{arity_one, arity_two, UnaryNode, BinaryNode, leaf_node, unary_node, binary_node, has_node}
 use Rattle.expr.specs.PartLaws.{tail_short, front_tree, starts_front, starts_lead, lead_starts}
 use Rattle.expr.specs.LentLaws.{put_tail, laid_length}
 use Rattle.rewriting.specs.AtomSimplifier.{first_rewrite}
@@ -68,16 +68,6 @@ module _ (ws : List ℕ) (s : Starts ws) where
 -- an end has no more words than its tree
 ends_short : (w : ℕ) (ws before after : List ℕ) (read len count : ℕ) → IsBuilt w ws before after read len count → len ≤ read
 ends_short w ws before after read len count i = omega (arith, i.comes.len_is, i.read_is, length_encode i.comes.tree, length_encode (tree_at ws), ends_nodes w i.comes.ends)
-
--- ---- a node, as its arity tells
-
--- of the children that a walk finds
-module _ (ws : List ℕ) (v : Arity) (h : accepted (children_of v) ≡ arity_of (get_or ws 0 0)) where
-  pub arity_one : v ≡ arity.One → arity_of (get_or ws 0 0) ≡ accepted 1
-  arity_one e = sym h ∙ ap (λ (a : Arity). accepted (children_of a)) e
-
-  pub arity_two : v ≡ arity.Two → arity_of (get_or ws 0 0) ≡ accepted 2
-  arity_two e = sym h ∙ ap (λ (a : Arity). accepted (children_of a)) e
 
 -- ---- a leaf
 

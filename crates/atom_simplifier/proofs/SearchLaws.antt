@@ -24,7 +24,7 @@ use Rattle.expr.specs.Answers.{children_of}
 use Rattle.expr.specs.Parts.{tail}
 use Rattle.expr.specs.TailLaws.{tail_drop, length_tail}
 use Rattle.expr.specs.Front.{Front, Leads, Exactly, Whole, tree_at, left_of}
-use Rattle.expr.specs.FrontLaws.{LeafNode, UnaryNode, BinaryNode, leaf_node, unary_node, binary_node, has_node}
+use Rattle.expr.specs.FrontLaws.{arity_two, LeafNode, UnaryNode, BinaryNode, leaf_node, unary_node, binary_node, has_node}
 use Rattle.expr.specs.PartLaws.{tail_short, front_tree, starts_front, starts_lead, lead_starts, exact_tree, exact_whole}
 use Rattle.expr.specs.LentLaws.{put_tail}
 use Rattle.expr.specs.Optional.{map, ◌or_else◌}
@@ -165,9 +165,6 @@ module _ (ws : List ℕ) (x : Leads ws) (v : Arity) (h : accepted (children_of v
           let z = none_is _ n before after r q m f in
           at_root_lem w root (tree_at ws) d a before after (first_site w (tree_at ws)) z.2 (ap tree_at j ∙ same_tree ws x (2 + m) (one_words m (z.1 ∙ c))) g i
           (sites ∙ ap (λ (o : Option def.Site). o or_else map here (local_rewrite w (tree_at ws))) z.0)
-
-  pub arity_two : v ≡ arity.Two → arity_of (get_or ws 0 0) ≡ accepted 2
-  arity_two e = sym h ∙ ap (λ (a : Arity). accepted (children_of a)) e
 
 -- a node over two children
 module _ (ws : List ℕ) (x : Leads ws) (e : arity_of (get_or ws 0 0) ≡ accepted 2) where

@@ -30,7 +30,7 @@ use Rattle.expr.specs.Optional.{only_if}
 use Rattle.expr.specs.Parts.{tail, part}
 use Rattle.expr.specs.TailLaws.{length_tail}
 use Rattle.expr.specs.Front.{Front, Starts, Leads, Exactly, Whole, tree_at, left_of, right_of}
-use Rattle.expr.specs.FrontLaws.{is_tree, leaf_node, has_arity, known_arity}
+use Rattle.expr.specs.FrontLaws.{is_tree, leaf_node, has_arity, known_arity, arity_one, arity_two}
 use Rattle.expr.specs.PartLaws.{parts, starts_lead, exact_length, exact_tree, exact_whole, exact_front, one_child, two_children, child_tree, left_tree, right_tree}
 use Rattle.expr.proofs.FoldLaws.{leaf_fits, unary_operand_fits}
 use Rattle.expr.specs.Trees.{constant_of, operand_of, operands_of}
@@ -233,10 +233,10 @@ module _ (ws : List ℕ) (x : Whole ws) (d : Result Arity Refusal) (h : arity_ou
     told = known_arity ws d h a e
 
     pub one_is : a ≡ One → arity_of (get_or ws 0 0) ≡ accepted 1
-    one_is g = sym told ∙ ap (λ (b : Arity). accepted (children_of b)) g
+    one_is = arity_one ws a told
 
     pub two_is : a ≡ Two → arity_of (get_or ws 0 0) ≡ accepted 2
-    two_is g = sym told ∙ ap (λ (b : Arity). accepted (children_of b)) g
+    two_is = arity_two ws a told
 
     pub leaf_held : a ≡ Zero → get_or ws 0 0 ≡ 1 → get_or ws 1 0 ≤ 4294967295
     leaf_held g = leaf_fits ws (whole_starts ws x) a told g

@@ -264,6 +264,14 @@ module _ (ws : List ℕ) (x : Result Arity Refusal) (e : arity_outcome x ≡ ari
   pub known_arity : (a : Arity) → x ≡ Ok a → accepted (children_of a) ≡ arity_of (get_or ws 0 0)
   known_arity a f = ap arity_outcome (sym f) ∙ e
 
+-- the arity by the number of children that a walk finds
+module _ (ws : List ℕ) (a : Arity) (e : accepted (children_of a) ≡ arity_of (get_or ws 0 0)) where
+  pub arity_one : a ≡ One → arity_of (get_or ws 0 0) ≡ accepted 1
+  arity_one f = sym e ∙ ap (λ (b : Arity). accepted (children_of b)) f
+
+  pub arity_two : a ≡ Two → arity_of (get_or ws 0 0) ≡ accepted 2
+  arity_two f = sym e ∙ ap (λ (b : Arity). accepted (children_of b)) f
+
 -- what every need of a call on a child's part is found by
 pub ruleset walk = (has_node, has_kind, has_operand, child_falls, right_falls, child_starts, left_starts, right_starts, left_within, leaf_spans, unary_spans, binary_spans, unary_fits, both_fit, binary_fits, right_scaled, has_arity, known_arity)
 
