@@ -8,8 +8,8 @@ ghost use Rattle.atom_identity_rewrite.specs.Places.{AddendsAre};
 ghost use Rattle.atom_identity_rewrite.specs.PlacesLaws.{AddendsAre-prop};
 ghost use Rattle.atom_identity_rewrite.specs.Promises.{addend_of, placed_addend, Addended, Named, Folded, ReadAll};
 
-use crate::subtree::Subtree;
 use expr::kind;
+use expr::tree::Tree;
 
 // The place of an addend's subtree in the lent words, and whether it is subtracted.
 #[derive(Clone, Copy)]
@@ -22,14 +22,14 @@ pub(crate) struct Addend {
 // A subtree that is added or, where `negated`, subtracted.
 #[derive(Clone, Copy)]
 pub(crate) struct SignedTree<'a> {
-    pub tree: Subtree<'a>,
+    pub tree: Tree<'a>,
     pub negated: bool,
 }
 
 // The addends of a tree: the first `count` of the list. An array by value, as memory is fixed.
 #[derive(Clone, Copy)]
 pub(crate) struct Addends<'a> {
-    pub node: Subtree<'a>,
+    pub node: Tree<'a>,
     list: [Addend; 256],
     pub count: usize,
     ghost few: { count ≤ 256 },
@@ -48,7 +48,7 @@ fn length_of(words: &[u64]) -> usize
 
 // The addends of the tree, first to last. `push_addend`'s recursion is a loop over the subtrees that are due, and their signs stand in an array
 // with a count beside it, as memory is fixed.
-pub(crate) fn flatten_addends<'a>(node: Subtree<'a>) -> Addends<'a>
+pub(crate) fn flatten_addends<'a>(node: Tree<'a>) -> Addends<'a>
     ensures { tree_at result.node.words.now ≡ tree_at node.entry.words.now }
 {
     let words = node.words;
@@ -109,7 +109,7 @@ fn signed_tree<'a>(words: &'a [u64], a: Addend) -> SignedTree<'a>
 {
     let end = a.start + a.len;
     SignedTree {
-        tree: Subtree {
+        tree: Tree {
             words: &words[a.start..end],
         },
         negated: a.negated,
