@@ -88,6 +88,7 @@ fn fill(out: &mut [Addend], all: &Addends<'_>)
 }
 
 // The addend's own subtree.
+#[tactic(auto, using(crate::proofs::ScanLaws::places))]
 fn signed_tree<'a>(sum: Tree<'a>, a: Addend) -> SignedTree<'a>
     requires { Named sum.words.now a }
     ensures { addend_of result ≡ placed_addend sum.entry.words.now a }
@@ -103,6 +104,7 @@ fn signed_tree<'a>(sum: Tree<'a>, a: Addend) -> SignedTree<'a>
 }
 
 // The only function that reads the lent list: it hands its addends to `read`, one after the other.
+#[tactic(auto, using(crate::proofs::ScanLaws::named_one, crate::proofs::ScanLaws::none_read, crate::proofs::ScanLaws::read_on))]
 fn scan<'a, S, F: Fn(S, SignedTree<'a>) -> S>(
     sum: Tree<'a>,
     list: &[Addend],

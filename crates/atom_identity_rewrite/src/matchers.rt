@@ -129,6 +129,7 @@ fn beside_not_of<'a>(a: Tree<'a>, l: Tree<'a>, r: Tree<'a>) -> Option<Tree<'a>>
 
 // ---- tag 4
 
+#[tactic(auto, using(crate::proofs::ReadLaws::role_reads))]
 pub(crate) fn match_and_via_not_or_plus_a_plus_one<'a>(
     all: &Addends<'a>,
     width: u32,
@@ -161,6 +162,7 @@ fn and_of_roles<'a>(roles: Roles<'a>) -> Option<Candidate<'a>>
 
 // ---- tag 5
 
+#[tactic(auto, using(crate::proofs::ReadLaws::role_reads))]
 pub(crate) fn match_xor_via_ornot_flat<'a>(all: &Addends<'a>, width: u32) -> Option<Candidate<'a>>
     ensures { made result ≡ match_xor_via_ornot_flat width (flatten_addends (tree_of all.now.node)) }
 {
@@ -207,6 +209,7 @@ fn xor_of_or_not<'a>(l: Tree<'a>, r: Tree<'a>, a: Tree<'a>, b: Tree<'a>) -> Opti
 // ---- tags 6 and 7
 
 // The root is an Add; each addend that is an Or with a Not is offered as an And.
+#[tactic(auto, using(crate::proofs::ReadLaws::all_offered))]
 pub(crate) fn match_and_via_ornot_lax<'a>(all: &Addends<'a>, asked: Offer<'a>) -> Offer<'a>
     ensures { OffersAll 6 (each lax_and (flatten_addends (tree_of all.now.node))) asked.entry result }
 {
@@ -214,6 +217,7 @@ pub(crate) fn match_and_via_ornot_lax<'a>(all: &Addends<'a>, asked: Offer<'a>) -
 }
 
 // The root is an Add; each addend that is or has an Or with a Not is offered as a Xor.
+#[tactic(auto, using(crate::proofs::ReadLaws::all_offered))]
 pub(crate) fn match_xor_via_ornot_lax<'a>(all: &Addends<'a>, asked: Offer<'a>) -> Offer<'a>
     ensures { OffersAll 7 (each lax_xor (flatten_addends (tree_of all.now.node))) asked.entry result }
 {
@@ -221,6 +225,7 @@ pub(crate) fn match_xor_via_ornot_lax<'a>(all: &Addends<'a>, asked: Offer<'a>) -
 }
 
 // The Ands of an Or's operands: the left Not first.
+#[tactic(auto, using(crate::proofs::OfferLaws::two_offered))]
 pub(crate) fn offer_ands<'a>(asked: Offer<'a>, l: Tree<'a>, r: Tree<'a>) -> Offer<'a>
     ensures { OffersAll 6 (lax_and_of (tree_of l.entry, tree_of r.entry)) asked.entry result }
 {
@@ -229,6 +234,7 @@ pub(crate) fn offer_ands<'a>(asked: Offer<'a>, l: Tree<'a>, r: Tree<'a>) -> Offe
 }
 
 // The Xors of an Or's operands: the right Not first.
+#[tactic(auto, using(crate::proofs::OfferLaws::two_offered))]
 pub(crate) fn offer_xors<'a>(asked: Offer<'a>, l: Tree<'a>, r: Tree<'a>) -> Offer<'a>
     ensures { OffersAll 7 (lax_xor_of (tree_of l.entry, tree_of r.entry)) asked.entry result }
 {

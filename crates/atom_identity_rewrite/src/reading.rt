@@ -101,6 +101,7 @@ pub(crate) fn sort_for_xor<'a>(width: u32, roles: Roles<'a>, a: SignedTree<'a>) 
 // ---- tags 6 and 7
 
 // The candidates of a lax And: of an Or that is added, the left Not first.
+#[tactic(auto, using(crate::proofs::OfferLaws::lax_offers))]
 pub(crate) fn lax_and<'a>(asked: Offer<'a>, a: SignedTree<'a>) -> Offer<'a>
     ensures { OffersAll 6 (lax_and (addend_of a.entry)) asked.entry result }
 {
@@ -114,6 +115,7 @@ pub(crate) fn lax_and<'a>(asked: Offer<'a>, a: SignedTree<'a>) -> Offer<'a>
 }
 
 // The candidates of a lax Xor: of an Or, or of one in a product with a Constant, the right Not first.
+#[tactic(auto, using(crate::proofs::OfferLaws::lax_offers))]
 pub(crate) fn lax_xor<'a>(asked: Offer<'a>, a: SignedTree<'a>) -> Offer<'a>
     ensures { OffersAll 7 (lax_xor (addend_of a.entry)) asked.entry result }
 {

@@ -33,6 +33,7 @@ fn put_first(kind: u64, part: Tree<'_>, out: &mut [u64])
 }
 
 // Writes the candidate, and answers how many words that is.
+#[tactic(auto, using(crate::proofs::WriteLaws::writing))]
 pub(crate) fn write_candidate(c: Candidate<'_>, out: &mut [u64]) -> usize
     requires { length (encode (candidate_tree c)) ≤ length out.old }
     ensures laid { Laid out.old out.new (encode (candidate_tree c.entry)) }
