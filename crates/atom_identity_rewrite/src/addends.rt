@@ -24,7 +24,7 @@ pub(crate) struct SignedTree<'a> {
     pub negated: bool,
 }
 
-// The addends of a tree: the first `count` of the list. An array by value, as memory is fixed.
+// The addends of a tree: the first `count` of the list.
 #[derive(Clone, Copy)]
 pub(crate) struct Addends<'a> {
     pub node: Tree<'a>,
@@ -36,7 +36,7 @@ pub(crate) struct Addends<'a> {
 }
 
 // The addends of the tree, first to last. `push_addend`'s recursion is a loop over the subtrees that are due, and their signs stand in an array
-// with a count beside it, as memory is fixed.
+// with a count beside it, as memory is fixed. Not a `for`: a turn goes on by a node or by a whole subtree, until none is due.
 pub(crate) fn flatten_addends<'a>(node: Tree<'a>) -> Addends<'a>
     ensures { tree_at result.node.words.now ≡ tree_at node.entry.words.now }
 {

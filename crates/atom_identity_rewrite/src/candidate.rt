@@ -16,7 +16,8 @@ pub(crate) struct Candidate<'a> {
     pub second: Tree<'a>,
 }
 
-// The candidate that is asked for, with its tag, or how many are left to pass over before it.
+// The candidate that is asked for, with its tag, or how many are left to pass over before it. Not an `Option`: where all are passed over, what is
+// left tells how many there are.
 #[derive(Clone, Copy)]
 pub(crate) enum Offer<'a> {
     Left(usize),

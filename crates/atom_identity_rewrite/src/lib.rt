@@ -2,14 +2,12 @@
 // 01's terms a tree that a matcher offers in place of the node, is decided first, with nothing written, and then turned into words.
 #![tactic(auto)]
 
-ghost use Rattle.std.specs.Prelude.{◌≡◌, ◌*◌, ◌≤◌, length};
-ghost use Rattle.expr.specs.Outcome.{mapped, ◌and_then◌};
+ghost use Rattle.std.specs.Prelude.{◌≡◌, ◌≤◌, length};
+ghost use Rattle.expr.specs.Outcome.{mapped};
 ghost use Rattle.expr.specs.Expr.{nodes};
 ghost use Rattle.expr.specs.Trees.{tree_of};
 ghost use Rattle.expr.specs.Answers.{outcome};
 ghost use Rattle.expr.specs.Lent.{lent_after};
-ghost use Rattle.width.specs.Checked.{checked};
-ghost use Rattle.expr.specs.Room.{with_words};
 ghost use Rattle.rewriting.specs.AtomIdentityRewrite.{lax_candidates, candidates};
 ghost use Rattle.atom_identity_rewrite.specs.Calls.{candidate_at, told, candidate_words};
 ghost use Rattle.atom_identity_rewrite.specs.Answers.{tag_number, candidate_outcome};

@@ -141,7 +141,7 @@ pub(crate) fn match_and_via_not_or_plus_a_plus_one<'a>(
     }
     let roles = addends::read_addends(
         all,
-        Roles::none(),
+        Roles::default(),
         |roles, a| reading::sort_for_and(width, roles, a),
     );
     and_of_roles(roles)
@@ -171,7 +171,7 @@ pub(crate) fn match_xor_via_ornot_flat<'a>(all: &Addends<'a>, width: u32) -> Opt
     }
     let roles = addends::read_addends(
         all,
-        Roles::none(),
+        Roles::default(),
         |roles, a| reading::sort_for_xor(width, roles, a),
     );
     xor_of_roles(roles)

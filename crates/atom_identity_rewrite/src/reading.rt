@@ -1,6 +1,6 @@
 // What is kept while the addends are read, one after the other.
-ghost use Rattle.std.specs.Prelude.{◌≡◌, ◌&&◌};
-ghost use Rattle.rewriting.specs.AtomIdentityRewrite.{is_there, is_masked, as_one, as_or, as_minus_two, as_minus_twice_or, lax_and, lax_xor};
+ghost use Rattle.std.specs.Prelude.{◌≡◌};
+ghost use Rattle.rewriting.specs.AtomIdentityRewrite.{is_masked, as_one, as_or, as_minus_two, as_minus_twice_or, lax_and, lax_xor};
 ghost use Rattle.atom_identity_rewrite.specs.Promises.{addend_of, no_roles, SortsAs, Sorts, OffersAll};
 
 use crate::addends::SignedTree;
@@ -11,7 +11,7 @@ use expr::kind::Binary;
 use expr::tree::Tree;
 
 // The roles of addends in tags 4 and 5: the constant, the Or by its operands, and of the others the last that is added and the last that is subtracted.
-#[derive(Clone, Copy)]
+#[derive(Clone, Copy, Default)]
 pub(crate) struct Roles<'a> {
     pub unit: bool,
     pub or: Option<(Tree<'a>, Tree<'a>)>,
@@ -19,21 +19,6 @@ pub(crate) struct Roles<'a> {
     pub minus: Option<Tree<'a>>,
     // whether any addend is subtracted
     pub negated: bool,
-}
-
-impl<'a> Roles<'a> {
-    // Of no addend.
-    pub(crate) fn none() -> Roles<'a>
-        ensures { result ≡ no_roles }
-    {
-        Roles {
-            unit: false,
-            or: None,
-            plus: None,
-            minus: None,
-            negated: false,
-        }
-    }
 }
 
 // ---- tags 4 and 5
