@@ -24,16 +24,6 @@ abbrev holds : {A : Type 0} → (A → Bool) → option.Option A → Bool
 holds p none = false
 holds p (some a) = p a
 
--- ---- the first of two answers
-
-pub trees_or : (a b : Option (Tree × Tree)) → optional_trees (option_or a b) ≡ (optional_trees a or_else optional_trees b)
-trees_or None b = refl
-trees_or (Some p) b = refl
-
-pub made_or : (a b : Option Candidate) → made (option_or a b) ≡ (made a or_else made b)
-made_or None b = refl
-made_or (Some c) b = refl
-
 -- ---- `is_not_of`
 
 not_of : (t u : Expr) → holds (λ s. expr_eq s u) (operand_of Not t) ≡ is_not_of t u

@@ -17,12 +17,15 @@ use expr::tree::Tree;
 
 // ---- tag 1
 
-#[tactic(auto, using(crate::proofs::NodeLaws::made_or), unfolding(rewriting::specs::AtomIdentityRewrite::match_xor_and_absorb))]
+#[tactic(auto, unfolding(rewriting::specs::AtomIdentityRewrite::match_xor_and_absorb))]
 pub(crate) fn match_xor_and_absorb<'a>(node: Tree<'a>) -> Option<Candidate<'a>>
     ensures { made result ≡ match_xor_and_absorb (tree_of node.entry) }
 {
     let (c0, c1) = node.operands(Binary::Xor)?;
-    xor_absorb_one(c0, c1).or(xor_absorb_one(c1, c0))
+    if let Some(c) = xor_absorb_one(c0, c1) {
+        return Some(c);
+    }
+    xor_absorb_one(c1, c0)
 }
 
 #[tactic(auto, unfolding(rewriting::specs::AtomIdentityRewrite::xor_absorb_one, rewriting::specs::AtomIdentityRewrite::expr_eq))]
@@ -52,12 +55,15 @@ fn xor_absorb_one<'a>(x: Tree<'a>, and_node: Tree<'a>) -> Option<Candidate<'a>>
 // ---- tag 2
 
 // The Rust's `pick_or_and` is the kinds that `xor_of_or_and` asks for: an Or is no And, so that at most one of the two orders gives a tree.
-#[tactic(auto, using(crate::proofs::NodeLaws::made_or), unfolding(rewriting::specs::AtomIdentityRewrite::match_xor_via_or_minus_and))]
+#[tactic(auto, unfolding(rewriting::specs::AtomIdentityRewrite::match_xor_via_or_minus_and))]
 pub(crate) fn match_xor_via_or_minus_and<'a>(node: Tree<'a>) -> Option<Candidate<'a>>
     ensures { made result ≡ match_xor_via_or_minus_and (tree_of node.entry) }
 {
     let (lhs, rhs) = match_binary_add_with_neg(node)?;
-    xor_of_or_and(lhs, rhs).or(xor_of_or_and(rhs, lhs))
+    if let Some(c) = xor_of_or_and(lhs, rhs) {
+        return Some(c);
+    }
+    xor_of_or_and(rhs, lhs)
 }
 
 // The Xor of the operands that an Or and an And have in common.
@@ -82,12 +88,15 @@ fn xor_of_or_and<'a>(or_side: Tree<'a>, and_side: Tree<'a>) -> Option<Candidate<
 
 // The Rust's `pick_kind` and `pick_other` are the kinds that `and_of_or_not` asks for: an Or is no Not, so that at most one of the two orders
 // gives a tree.
-#[tactic(auto, using(crate::proofs::NodeLaws::made_or), unfolding(rewriting::specs::AtomIdentityRewrite::match_and_via_not_or_minus_not))]
+#[tactic(auto, unfolding(rewriting::specs::AtomIdentityRewrite::match_and_via_not_or_minus_not))]
 pub(crate) fn match_and_via_not_or_minus_not<'a>(node: Tree<'a>) -> Option<Candidate<'a>>
     ensures { made result ≡ match_and_via_not_or_minus_not (tree_of node.entry) }
 {
     let (lhs, rhs) = match_binary_add_with_neg(node)?;
-    and_of_or_not(lhs, rhs).or(and_of_or_not(rhs, lhs))
+    if let Some(c) = and_of_or_not(lhs, rhs) {
+        return Some(c);
+    }
+    and_of_or_not(rhs, lhs)
 }
 
 // The And of a Not's operand and what stands beside this Not in an Or.

@@ -58,19 +58,23 @@ fn or_beside<'a>(tree: Tree<'a>, factor: Factor, other: Tree<'a>) -> Option<(Tre
 }
 
 // The operands of the Or in a product with a factor; the left operand is tested first.
-#[tactic(auto, using(crate::proofs::NodeLaws::trees_or), unfolding(rewriting::specs::AtomIdentityRewrite::or_in_product))]
+#[tactic(auto, unfolding(rewriting::specs::AtomIdentityRewrite::or_in_product))]
 pub(crate) fn or_in_product<'a>(tree: Tree<'a>, factor: Factor) -> Option<(Tree<'a>, Tree<'a>)>
     ensures { optional_trees result ≡ or_in_product (factor_of factor) (tree_of tree.entry) }
 {
     let (l, r) = tree.operands(Binary::Mul)?;
-    or_beside(l, factor, r).or(or_beside(r, factor, l))
+    if let Some(sides) = or_beside(l, factor, r) {
+        return Some(sides);
+    }
+    or_beside(r, factor, l)
 }
 
 // The operands, where the tree is an Or, or those of the Or in a product with a Constant.
-#[tactic(auto, using(crate::proofs::NodeLaws::trees_or))]
 pub(crate) fn or_inside<'a>(tree: Tree<'a>) -> Option<(Tree<'a>, Tree<'a>)>
     ensures { optional_trees result ≡ (operands_of Or (tree_of tree.entry) or_else or_in_product is_constant_node (tree_of tree.entry)) }
 {
-    tree.operands(Binary::Or)
-        .or(or_in_product(tree, Factor::Constant))
+    if let Some(sides) = tree.operands(Binary::Or) {
+        return Some(sides);
+    }
+    or_in_product(tree, Factor::Constant)
 }

@@ -28,7 +28,8 @@ fn put_first(kind: u64, part: Tree<'_>, out: &mut [u64])
     requires { 2 + length part.words.now ≤ length out.old }
     ensures { Laid out.old out.new ((kind ∷ 0 ∷ []) ++ encode (tree_of part.entry)) }
 {
-    expr::copy_words(&[kind, 0], out);
+    out[0] = kind;
+    out[1] = 0;
     expr::copy_words(part.words, &mut out[2..]);
 }
 
