@@ -1,6 +1,6 @@
 -- What the matchers ask of a tree. Assumes nothing.
 use Rattle.std.specs.Prelude.{◌≡◌, refl, Bool, false, ℕ, ◌%◌, ◌^◌, ◌<◌, eqb, Option, Some, None}
-use Rattle.std.specs.Option.{is_some, option_or}
+use Rattle.std.specs.Option.{is_some}
 use Rattle.std.proofs.Common.{sym, ap, ◌∙◌}
 use Rattle.std.proofs.Math.Option as option
 use Rattle.std.proofs.Math.Option.{none, some}
@@ -9,15 +9,16 @@ use Rattle.arith.specs.ArithLaws.{low_word}
 use Rattle.expr.specs.Expr.{Expr, leaf, unary, binary, encode}
 use Rattle.expr.specs.declared.kind.Leaf.TheVariants.{Constant, Variable}
 use Rattle.expr.specs.declared.kind.Unary.TheVariants.{Not, Neg, Shr, ZExt, SExt, Trunc}
-use Rattle.expr.specs.Optional.{◌or_else◌, option_of}
+use Rattle.expr.specs.Optional.{map, ◌and_then◌, option_of}
+use Rattle.expr.specs.OptionalLaws.{then_never}
+use Rattle.expr.specs.declared.kind.Binary.TheVariants.{And, Or}
+use Rattle.rewriting.specs.MatchLaws.{not_operand}
 use Rattle.expr.specs.SameWords.{same_words}
-use Rattle.expr.specs.Trees.{optional_trees, constant_of, operand_of}
-use Rattle.expr.specs.declared.tree.Tree.{Tree}
-use Rattle.rewriting.specs.AtomIdentityRewrite.{expr_eq, is_not_of, is_masked, is_constant_node, is_there}
+use Rattle.expr.specs.Trees.{constant_of, operand_of, operands_of}
+use Rattle.rewriting.specs.AtomIdentityRewrite.{expr_eq, is_not_of, beside_not_of, and_of_or_not, is_masked, is_constant_node, is_there}
 use Rattle.atom_identity_rewrite.specs.declared.node.Factor.{Factor}
 use Rattle.atom_identity_rewrite.specs.declared.node.Factor.TheVariants as factor
-use Rattle.atom_identity_rewrite.specs.Promises.{factor_of, made}
-use Rattle.atom_identity_rewrite.specs.declared.candidate.Candidate.{Candidate}
+use Rattle.atom_identity_rewrite.specs.Promises.{factor_of}
 
 -- p of what is there
 abbrev holds : {A : Type 0} → (A → Bool) → option.Option A → Bool
@@ -44,6 +45,12 @@ module _ (t u : Expr) where
   pub not_some : (s : Expr) → some s ≡ operand_of Not t → (b : Bool) → b ≡ same_words (encode s) (encode u) → b ≡ is_not_of t u
   unfolding expr_eq
   not_some s e b f = f ∙ ap (holds (λ s. expr_eq s u)) e ∙ not_of t u
+
+-- ---- `and_of_or_not`
+
+pub no_not : (t u : Expr) → none ≡ operand_of Not u → none ≡ and_of_or_not t u
+unfolding and_of_or_not
+no_not t u e = sym (then_never (operands_of Or t) _ (λ (l, r). ap (λ (o : option.Option Expr). o and_then λ a. map (binary And a) (beside_not_of a l r)) (sym (not_operand u) ∙ sym e)))
 
 -- ---- `is_masked`, `is_factor`
 

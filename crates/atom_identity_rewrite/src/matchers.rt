@@ -100,12 +100,13 @@ pub(crate) fn match_and_via_not_or_minus_not<'a>(node: Tree<'a>) -> Option<Candi
 }
 
 // The And of a Not's operand and what stands beside this Not in an Or.
-#[tactic(auto, using(rewriting::specs::MatchLaws::not_operand), unfolding(rewriting::specs::AtomIdentityRewrite::and_of_or_not))]
+#[tactic(auto, using(rewriting::specs::MatchLaws::not_operand, crate::proofs::NodeLaws::no_not), unfolding(rewriting::specs::AtomIdentityRewrite::and_of_or_not))]
 fn and_of_or_not<'a>(or_side: Tree<'a>, not_side: Tree<'a>) -> Option<Candidate<'a>>
     ensures { made result ≡ and_of_or_not (tree_of or_side.entry) (tree_of not_side.entry) }
 {
-    let (l, r) = or_side.operands(Binary::Or)?;
+    // the Not first: it takes no span
     let a_inside_not = not_side.operand(Unary::Not)?;
+    let (l, r) = or_side.operands(Binary::Or)?;
     and_beside(a_inside_not, l, r)
 }
 
