@@ -101,12 +101,6 @@ module _ (ws : List ℕ) where
       (sym (ap₂ (λ (o p : option.Option Expr). tagged 4 (to_list o) ++ (tagged 5 (to_list p) ++ lax_candidates (tree_at ws))) four five))
       (no_lax ws x a f)
 
-module _ (w : ℕ) (t : Expr) (m n : Option Candidate) (a b c d : Offer) where
-  pub sum_offered : made m ≡ def.match_and_via_not_or_plus_a_plus_one w (flatten_addends t) → OffersAll 4 (to_list (made m)) a b
-      → made n ≡ def.match_xor_via_ornot_flat w (flatten_addends t) → OffersAll 5 (to_list (made n)) b c
-      → OffersList (lax_candidates t) c d → OffersList (sum_candidates w t) a d
-  sum_offered e f g h i = joined _ _ a b d (offered_made 4 m _ a b e f) (joined _ _ b c d (offered_made 5 n _ b c g h) i)
-
 module _ (number w : ℕ) (t : Expr) (m n o : Option Candidate) (b c d e : Offer) where
   pub all_offered : made m ≡ match_xor_and_absorb t → OffersAll 1 (to_list (made m)) (offer.Left number) b
       → made n ≡ match_xor_via_or_minus_and t → OffersAll 2 (to_list (made n)) b c
@@ -117,7 +111,7 @@ module _ (number w : ℕ) (t : Expr) (m n o : Option Candidate) (b c d e : Offer
       (joined _ _ (offer.Left number) b e (offered_made 1 m _ _ b f g) (joined _ _ b c e (offered_made 2 n _ b c h i) (joined _ _ c d e (offered_made 3 o _ c d j k) l))
       ).offers number [] (record { is = add-zero number })
 
-pub ruleset tags = (found_already, no_sum, sum_offered, all_offered)
+pub ruleset tags = (found_already, no_sum, all_offered)
 
 -- ---- `hand_over`
 

@@ -81,5 +81,3 @@ module _ (t : Expr) (o : Option ℕ) (h : option_of o ≡ constant_of t) where
 
   pub constant_factor : (f : Factor) → f ≡ factor.Constant → is_some o ≡ factor_of f t
   constant_factor f e = there_is o ∙ ap is_there h ∙ constant_there t ∙ sym (ap (λ (g : Factor). factor_of g t) e)
-
-pub ruleset constants = (masked_none, masked_some, constant_factor)
