@@ -31,10 +31,11 @@ use Rattle.expr.specs.Span.{span_of}
 use Rattle.expr.specs.SpanLaws.{span_counted, span_not_refused}
 use Rattle.expr.specs.Parts.{tail}
 use Rattle.expr.specs.TailLaws.{tail_drop, length_tail}
-use Rattle.expr.specs.Front.{Front, Starts, Whole, tree_at}
+use Rattle.expr.specs.Front.{Front, tree_at}
 use Rattle.expr.specs.FrontLaws.{UnaryNode, BinaryNode, unary_node, binary_node}
-use Rattle.expr.specs.PartLaws.{front_tree, starts_front, exact_front, exact_length}
+use Rattle.expr.specs.PartLaws.{exact_front, exact_length}
 use Rattle.expr.specs.Trees.{same_kind}
+use Rattle.expr.specs.declared.tree.Tree.{Tree}
 use Rattle.rewriting.specs.MatchLaws.{neg_number}
 use Rattle.rewriting.specs.AtomIdentityRewrite as def
 use Rattle.rewriting.specs.AtomIdentityRewrite.{is_neg_kind, push_addend, flatten_addends}
@@ -48,21 +49,6 @@ placed (unary k t) at s = if is_neg_kind k then placed t (at + 2) (not s) else r
 placed (binary k l r) at s =
     if same_kind k Add then placed l (at + 2) s ++ placed r (at + 2 + length (encode l)) s
     else record { start = at; len = length (encode (binary k l r)); negated = s } ∷ []
-
--- ---- `length_of`
-
-module _ (ws : List ℕ) (s : Starts ws) (even : length ws % 2 ≡ 0) (short : length ws ≤ 1024) (c : std.Result ℕ Refusal) (h : outcome c ≡ span_of ws) where
-  pub length_read : is_ok c ≡ true
-  length_read = let f = starts_front ws s in by_answer f.rest f.words c h
-    where
-      by_answer : (rest : List ℕ) → ws ≡ encode (tree_at ws) ++ rest → (d : std.Result ℕ Refusal) → outcome d ≡ span_of ws → is_ok d ≡ true
-      by_answer rest e (std.Ok n) g = refl
-      by_answer rest e (std.Err r) g = absurd (span_not_refused ws (tree_at ws) rest e even short (reason_of r) g)
-
-  pub length_counted : (n : ℕ) → c ≡ std.Ok n → n ≡ length (encode (tree_at ws))
-  length_counted n e = let f = starts_front ws s in span_counted ws (tree_at ws) f.rest f.words even short n (ap outcome (sym e) ∙ h)
-
-pub ruleset lengths = (length_read, length_counted)
 
 -- ---- how many addends a tree has
 
@@ -187,16 +173,14 @@ pub record Gathered (ws : List ℕ) (list : List Addend) (count : ℕ) (signs : 
   pub signs_are : SignsAre pending signs
   pub all : placed (tree_at ws) 0 false ≡ take count list ++ placed_all pending at
 
-pub record Gathering (ws : List ℕ) (list : List Addend) (count : ℕ) (signs : List Bool) (due at : ℕ) : Type 0 where
-  pub whole : Whole ws
-  pub short : length ws ≤ 1024
-  pub within : at ≤ length ws
+pub record Gathering (sum : Tree) (list : List Addend) (count : ℕ) (signs : List Bool) (due at : ℕ) : Type 0 where
+  pub within : at ≤ length sum.words.now
   pub counted : count ≤ 256
   pub has_list : length list ≡ 256
   pub has_signs : length signs ≡ 512
   pub pending : List Owed
   pub due_is : due ≡ length pending
-  pub gathered : Gathered ws list count signs pending at
+  pub gathered : Gathered sum.words.now list count signs pending at
 
 -- each subtree has a node at least
 two_each : (l : List Owed) → 2 * length l ≤ length (words_of l)
@@ -276,29 +260,30 @@ module _ (ws : List ℕ) (list : List Addend) (count : ℕ) (signs : List Bool) 
             ∙ ap (λ (v : List Addend). v ++ rest) (sym (take-suc-set list count a h) ∙ ap (λ (i : ℕ). take i (set list count a)) (let z : suc count ≡ count + 1 = omega arith in z));
       }
 
-pub gathering_first : (ws : List ℕ) → Whole ws → length ws ≤ 1024 → (a : Addend) → Gathering ws (replicate 256 a) 0 (replicate 512 false) 1 0
+pub gathering_first : (sum : Tree) (a : Addend) → Gathering sum (replicate 256 a) 0 (replicate 512 false) 1 0
 unfolding words_of Sound SignsAre placed_all
-gathering_first ws x h a = record {
-  whole = x;
-  short = h;
+gathering_first sum a = record {
   within = omega arith;
   counted = omega arith;
   has_list = length-replicate {0} {A = Addend} 256 a;
   has_signs = length-replicate {0} {A = Bool} 512 false;
-  pending = record { negated = false; tree = tree_at ws } ∷ [];
+  pending = record { negated = false; tree = tree_at sum.words.now } ∷ [];
   due_is = refl;
   gathered = record {
-    sound = (x.operands, tt);
-    words = x.words ∙ sym (append-nil (encode (tree_at ws)));
+    sound = (sum.whole.operands, tt);
+    words = sum.whole.words ∙ sym (append-nil (encode (tree_at sum.words.now)));
     signs_are = (get_or-replicate 512 0 false false (omega arith), tt);
-    all = sym (append-nil (placed (tree_at ws) 0 false));
+    all = sym (append-nil (placed (tree_at sum.words.now) 0 false));
   };
 }
 
-module _ (ws : List ℕ) (list : List Addend) (count : ℕ) (signs : List Bool) (due at : ℕ) (g : Gathering ws list count signs due at) where
+module _ (sum : Tree) (list : List Addend) (count : ℕ) (signs : List Bool) (due at : ℕ) (g : Gathering sum list count signs due at) where
+  abbrev ws : List ℕ
+  ws = sum.words.now
+
   -- all the addends of the tree
   total : length (placed (tree_at ws) 0 false) ≤ 256
-  total = omega (arith, few (tree_at ws) 0 false, exact_length ws (tree_at ws) g.whole, length_encode (tree_at ws), g.short)
+  total = omega (arith, few (tree_at ws) 0 false, exact_length ws (tree_at ws) sum.whole, length_encode (tree_at ws), sum.short)
 
   module _ (h : due ≤ 0) where
     all_taken : take count list ≡ placed (tree_at ws) 0 false
@@ -310,7 +295,7 @@ module _ (ws : List ℕ) (list : List Addend) (count : ℕ) (signs : List Bool) 
 
     pub gathered_are : AddendsAre ws (take count list) (flatten_addends (tree_at ws))
     gathered_are =
-        let x = g.whole in
+        let x = sum.whole in
         let f = exact_front ws (tree_at ws) x in
         subst (λ (l : List Addend). AddendsAre ws l (flatten_addends (tree_at ws))) (sym all_taken) (placed_are ws (tree_at ws) false [] f.rest 0 refl f.words x.operands)
 
@@ -365,42 +350,40 @@ module _ (ws : List ℕ) (list : List Addend) (count : ℕ) (signs : List Bool) 
     kind_left = omega (arith, node_left)
 
     pub place_fits : Fits w64 (at + 2)
-    place_fits = omega (arith, node_left, g.short)
+    place_fits = omega (arith, node_left, sum.short)
 
     pub turn_falls : length ws - (at + 2) < length ws - at
     turn_falls = omega (arith, node_left)
 
     pub top_below : due - 1 < 512
-    top_below = omega (arith, last, left, two_each more, length_encode tree, nodes_pos tree, g.short)
+    top_below = omega (arith, last, left, two_each more, length_encode tree, nodes_pos tree, sum.short)
 
     -- ---- an Add
 
     module _ (e : get_or ws at 0 ≡ 2) where
-      sum : BinaryNode (drop at ws) tree
-      sum = binary_node (drop at ws) Two (sym (ap arity_of (kind_is ∙ e) ∙ number_arity (kinds.two Add))) tree refl front
+      node : BinaryNode (drop at ws) tree
+      node = binary_node (drop at ws) Two (sym (ap arity_of (kind_is ∙ e) ∙ number_arity (kinds.two Add))) tree refl front
 
       pub due_below : due < 512
       unfolding encode
       due_below =
-          omega (arith, last, left, two_each more, ap (λ (t : Expr). length (encode t)) sum.is, length-append (encode sum.left) (encode sum.right), length_encode sum.left, nodes_pos sum.left, length_encode sum.right, nodes_pos sum.right, g.short)
+          omega (arith, last, left, two_each more, ap (λ (t : Expr). length (encode t)) node.is, length-append (encode node.left) (encode node.right), length_encode node.left, nodes_pos node.left, length_encode node.right, nodes_pos node.right, sum.short)
 
       pub due_fits : Fits w64 (due + 1)
       due_fits = omega (arith, due_below)
 
-      pub gathering_add : Gathering ws list count (set signs due (get_or signs (due - 1) false)) (due + 1) (at + 2)
+      pub gathering_add : Gathering sum list count (set signs due (get_or signs (due - 1) false)) (due + 1) (at + 2)
       gathering_add = record {
-        whole = g.whole;
-        short = g.short;
         within = node_left;
         counted = g.counted;
         has_list = g.has_list;
         has_signs = length-set signs due (get_or signs (due - 1) false) ∙ g.has_signs;
-        pending = record { negated = sign; tree = sum.left } ∷ record { negated = sign; tree = sum.right } ∷ more;
+        pending = record { negated = sign; tree = node.left } ∷ record { negated = sign; tree = node.right } ∷ more;
         due_is = omega (arith, last);
-        gathered = subst (λ (l : List Bool). Gathered ws list count l (record { negated = sign; tree = sum.left } ∷ record { negated = sign; tree = sum.right } ∷ more) (at + 2))
+        gathered = subst (λ (l : List Bool). Gathered ws list count l (record { negated = sign; tree = node.left } ∷ record { negated = sign; tree = node.right } ∷ more) (at + 2))
             (ap (λ (i : ℕ). set signs i sign) (sym last) ∙ ap (set signs due) (sym sign_is))
-            (add_turn ws list count signs sign more at sum.kind sum.left sum.right (sym sum.number_is ∙ kind_is ∙ e) (omega (arith, last, due_below, g.has_signs))
-            (subst (λ (t : Expr). Gathered ws list count signs (record { negated = sign; tree = t } ∷ more) at) sum.is state));
+            (add_turn ws list count signs sign more at node.kind node.left node.right (sym node.number_is ∙ kind_is ∙ e) (omega (arith, last, due_below, g.has_signs))
+            (subst (λ (t : Expr). Gathered ws list count signs (record { negated = sign; tree = t } ∷ more) at) node.is state));
       }
 
     -- ---- a Neg
@@ -409,10 +392,8 @@ module _ (ws : List ℕ) (list : List Addend) (count : ℕ) (signs : List Bool) 
       turned : UnaryNode (drop at ws) tree
       turned = unary_node (drop at ws) One (sym (ap arity_of (kind_is ∙ e) ∙ number_arity (kinds.one Neg))) tree refl front
 
-      pub gathering_neg : Gathering ws list count (set signs (due - 1) (not (get_or signs (due - 1) false))) due (at + 2)
+      pub gathering_neg : Gathering sum list count (set signs (due - 1) (not (get_or signs (due - 1) false))) due (at + 2)
       gathering_neg = record {
-        whole = g.whole;
-        short = g.short;
         within = node_left;
         counted = g.counted;
         has_list = g.has_list;
@@ -430,14 +411,11 @@ module _ (ws : List ℕ) (list : List Addend) (count : ℕ) (signs : List Bool) 
     behind : Front (tail at ws) tree
     behind = subst (λ (l : List ℕ). Front l tree) (sym (tail_drop at ws)) front
 
-    pub behind_starts : Starts (tail at ws)
-    behind_starts = record { tree = tree; front = behind }
-
-    pub behind_even : length (tail at ws) % 2 ≡ 0
+    behind_even : length (tail at ws) % 2 ≡ 0
     behind_even = omega (arith, length_tail at ws, left, length_encode tree, even_words more)
 
-    pub behind_short : length (tail at ws) ≤ 1024
-    behind_short = omega (arith, length_tail at ws, g.short)
+    behind_short : length (tail at ws) ≤ 1024
+    behind_short = omega (arith, length_tail at ws, sum.short)
 
     module _ (no_add : get_or ws at 0 ≡ 2 → ⊥) (no_neg : get_or ws at 0 ≡ 8 → ⊥) where
       one_placed : placed tree at sign ≡ record { start = at; len = length (encode tree); negated = sign } ∷ []
@@ -454,30 +432,36 @@ module _ (ws : List ℕ) (list : List Addend) (count : ℕ) (signs : List Bool) 
       pub count_scaled : Fits w64 (count * 24)
       count_scaled = omega (arith, count_below)
 
-      module _ (n : ℕ) (n_is : n ≡ length (encode (tree_at (tail at ws)))) where
-        len_is : n ≡ length (encode tree)
-        len_is = n_is ∙ ap (λ (t : Expr). length (encode t)) (front_tree (tail at ws) tree behind)
+      module _ (c : std.Result ℕ Refusal) (h : outcome c ≡ span_of (tail at ws)) where
+        pub length_read : is_ok c ≡ true
+        length_read = by_answer c h
+          where
+            by_answer : (d : std.Result ℕ Refusal) → outcome d ≡ span_of (tail at ws) → is_ok d ≡ true
+            by_answer (std.Ok n) e = refl
+            by_answer (std.Err r) e = absurd (span_not_refused (tail at ws) tree behind.rest behind.words behind_even behind_short (reason_of r) e)
 
-        pub past_fits : Fits w64 (at + n)
-        past_fits = omega (arith, len_is, left, g.within, g.short)
+        module _ (n : ℕ) (e : c ≡ std.Ok n) where
+          len_is : n ≡ length (encode tree)
+          len_is = span_counted (tail at ws) tree behind.rest behind.words behind_even behind_short n (ap outcome (sym e) ∙ h)
 
-        pub past_falls : length ws - (at + n) < length ws - at
-        past_falls = omega (arith, len_is, left, length_encode tree, nodes_pos tree)
+          pub past_fits : Fits w64 (at + n)
+          past_fits = omega (arith, len_is, left, g.within, sum.short)
 
-        pub gathering_one : Gathering ws (set list count (record { start = at; len = n; negated = get_or signs (due - 1) false })) (count + 1) signs (due - 1) (at + n)
-        gathering_one = record {
-          whole = g.whole;
-          short = g.short;
-          within = omega (arith, len_is, left, g.within);
-          counted = omega (arith, count_below);
-          has_list = length-set list count _ ∙ g.has_list;
-          has_signs = g.has_signs;
-          pending = more;
-          due_is = top;
-          gathered =
-              subst (λ (b : Bool). Gathered ws (set list count (record { start = at; len = n; negated = b })) (count + 1) signs more (at + n)) (sym sign_is)
-              (subst (λ (m : ℕ). Gathered ws (set list count (record { start = at; len = m; negated = sign })) (count + 1) signs more (at + m)) (sym len_is)
-              (one_turn ws list count signs sign more at tree one_placed (omega (arith, count_below, g.has_list)) state));
-        }
+          pub past_falls : length ws - (at + n) < length ws - at
+          past_falls = omega (arith, len_is, left, length_encode tree, nodes_pos tree)
 
-pub ruleset gathers = (gathering_first, gathered_are, gathered_count, gathered_few, kind_left, place_fits, turn_falls, top_below, due_below, due_fits, gathering_add, gathering_neg, behind_starts, behind_even, behind_short, count_below, count_fits, count_scaled, past_fits, past_falls, gathering_one)
+          pub gathering_one : Gathering sum (set list count (record { start = at; len = n; negated = get_or signs (due - 1) false })) (count + 1) signs (due - 1) (at + n)
+          gathering_one = record {
+            within = omega (arith, len_is, left, g.within);
+            counted = omega (arith, count_below);
+            has_list = length-set list count _ ∙ g.has_list;
+            has_signs = g.has_signs;
+            pending = more;
+            due_is = top;
+            gathered =
+                subst (λ (b : Bool). Gathered ws (set list count (record { start = at; len = n; negated = b })) (count + 1) signs more (at + n)) (sym sign_is)
+                (subst (λ (m : ℕ). Gathered ws (set list count (record { start = at; len = m; negated = sign })) (count + 1) signs more (at + m)) (sym len_is)
+                (one_turn ws list count signs sign more at tree one_placed (omega (arith, count_below, g.has_list)) state));
+          }
+
+pub ruleset gathers = (gathering_first, gathered_are, gathered_count, gathered_few, kind_left, place_fits, turn_falls, top_below, due_below, due_fits, gathering_add, gathering_neg, length_read, count_below, count_fits, count_scaled, past_fits, past_falls, gathering_one)

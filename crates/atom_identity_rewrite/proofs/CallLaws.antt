@@ -1,25 +1,24 @@
 -- The candidates of the tree that the words are, one tag after the other, and the public call. Assumes nothing.
-use Rattle.std.specs.Prelude.{◌≡◌, refl, Bool, true, false, List, [], ◌∷◌, ◌++◌, ℕ, zero, suc, ◌+◌, ◌*◌, ◌-◌, ◌/◌, ◌≤◌, ◌<◌, eqb, length, get_or, if◌then◌else◌, Option, Result, Ok, Err}
-use Rattle.std.proofs.Common.{sym, ap, ap₂, subst, ◌∙◌, arith, append-nil, add-zero, Fits, w64, eq-eqb, ne_eqb}
+use Rattle.std.specs.Prelude.{◌≡◌, refl, Bool, true, false, List, [], ◌∷◌, ◌++◌, ℕ, zero, suc, ◌+◌, ◌*◌, ◌-◌, ◌/◌, ◌≤◌, eqb, ltb, length, get_or, if◌then◌else◌, Option}
+use Rattle.std.proofs.Common.{sym, ap, ap₂, subst, ◌∙◌, arith, append-nil, add-zero, eq-eqb, ne_eqb}
 use Rattle.std.proofs.Math.Option as option
 use Rattle.std.proofs.Math.Option.{none, some}
-use Rattle.expr.specs.declared.refusal.Refusal.{Refusal}
-use Rattle.expr.specs.Refusals.{refusal, reason_of}
+use Rattle.expr.specs.Refusals.{refusal}
 use Rattle.expr.specs.Outcome.{Outcome, refused, accepted, mapped, ◌and_then◌}
-use Rattle.expr.specs.OutcomeLaws.{mapped_accepted, mapped_made, refused_then, refused_mapped}
 use Rattle.expr.specs.Expr.{Expr, leaf, unary, binary, unary_number, binary_number, encode, nodes}
 use Rattle.expr.specs.declared.kind.Leaf.TheVariants.{Constant, Variable}
 use Rattle.expr.specs.declared.kind.Unary.{Unary}
 use Rattle.expr.specs.declared.kind.Unary.TheVariants.{Not, Neg, Shr, ZExt, SExt, Trunc}
 use Rattle.expr.specs.ExprLaws.{length_encode}
-use Rattle.expr.specs.Answers.{outcome}
 use Rattle.expr.specs.Parts.{Laid}
 use Rattle.expr.specs.Lent.{lent_after}
 use Rattle.expr.specs.Front.{Exactly, Whole, tree_at}
-use Rattle.expr.specs.PartLaws.{exact_tree, exact_whole, exact_length}
-use Rattle.width.specs.Checked.{checked}
-use Rattle.expr.specs.Room.{with_words}
-use Rattle.width.specs.CheckedLaws.{Tree, checked_tree, too_little, enough, Admitted, admitted_sound}
+use Rattle.expr.specs.PartLaws.{exact_length}
+use Rattle.expr.specs.Parse.{parse}
+use Rattle.expr.specs.Room.{room_for, with_words}
+use Rattle.width.specs.Checked.{width_of_call}
+use Rattle.expr.specs.declared.refusal.Reason.{Reason}
+use Rattle.width.specs.CheckedLaws.{width_refused, checked_parse, roomy}
 use Rattle.rewriting.specs.MatchLaws.{neg_number}
 use Rattle.rewriting.specs.AtomIdentityRewrite as def
 use Rattle.rewriting.specs.AtomIdentityRewrite.{to_list, match_xor_and_absorb, match_xor_via_or_minus_and, match_and_via_not_or_minus_not, flatten_addends, lax_and, lax_xor, each, is_add, tagged, lax_candidates, candidates}
@@ -56,24 +55,24 @@ module _ (ws : List ℕ) where
       no_add (Trunc n) = refl
   add_told (binary k l r) x b e = ap (λ (v : List ℕ). eqb (get_or v 0 0) 2) (sym x.words) ∙ e
 
-  module _ (x : Whole ws) (n : ℕ) (k : n ≡ get_or ws 0 0) (a : Offer) where
+  module _ (x : Whole ws) (a : Offer) where
     -- what an Add has, and another node
     abbrev by_add : Bool → List def.Candidate
     by_add b = if b then tagged 6 (each lax_and (flatten_addends (tree_at ws))) ++ tagged 7 (each lax_xor (flatten_addends (tree_at ws))) else []
 
-    pub no_lax : (n ≡ 2 → ⊥) → OffersList (lax_candidates (tree_at ws)) a a
+    pub no_lax : (get_or ws 0 0 ≡ 2 → ⊥) → OffersList (lax_candidates (tree_at ws)) a a
     unfolding lax_candidates
     no_lax f =
         subst (λ (cs : List def.Candidate). OffersList cs a a)
-        (sym (ap by_add (add_told (tree_at ws) x false (ne_eqb (get_or ws 0 0) 2 (λ e. f (k ∙ e))))))
+        (sym (ap by_add (add_told (tree_at ws) x false (ne_eqb (get_or ws 0 0) 2 f))))
         (record { offers = λ number cs h. subst (λ (ds : List def.Candidate). Offered number ds a) (sym (append-nil cs)) h })
 
-    pub lax_offered : n ≡ 2 → (b c : Offer)
+    pub lax_offered : get_or ws 0 0 ≡ 2 → (b c : Offer)
         → OffersAll 6 (each lax_and (flatten_addends (tree_at ws))) a b → OffersAll 7 (each lax_xor (flatten_addends (tree_at ws))) b c → OffersList (lax_candidates (tree_at ws)) a c
     unfolding lax_candidates
     lax_offered e b c f g =
         subst (λ (cs : List def.Candidate). OffersList cs a c)
-        (sym (ap by_add (add_told (tree_at ws) x true (eq-eqb (get_or ws 0 0) 2 (sym k ∙ e)))))
+        (sym (ap by_add (add_told (tree_at ws) x true (eq-eqb (get_or ws 0 0) 2 e))))
         (joined _ _ a b c f g)
 
 pub ruleset laxes = (no_lax, lax_offered)
@@ -92,21 +91,15 @@ module _ (ws : List ℕ) where
       ap (λ (b : Bool). length (if b then def.push_addend false l ++ def.push_addend false r else record { expr = binary k l r; negated = false } ∷ []))
       (ne_eqb (binary_number k) 2 (λ e. f (ap (λ (v : List ℕ). get_or v 0 0) x.words ∙ e)))
 
-  pub no_sum : Whole ws → (n : ℕ) → n ≡ get_or ws 0 0 → (w : ℕ) (a : Offer) → (n ≡ 2 → ⊥) → (n ≡ 8 → ⊥) → OffersList (sum_candidates w (tree_at ws)) a a
+  pub no_sum : Whole ws → (w : ℕ) (a : Offer) → (get_or ws 0 0 ≡ 2 → ⊥) → (get_or ws 0 0 ≡ 8 → ⊥) → OffersList (sum_candidates w (tree_at ws)) a a
   unfolding tagged
-  no_sum x k e w a f g =
-      let n = only_addend (tree_at ws) x (λ i. f (e ∙ i)) (λ i. g (e ∙ i)) in
+  no_sum x w a f g =
+      let n = only_addend (tree_at ws) x f g in
       let four = and_not_three w (flatten_addends (tree_at ws)) (λ i. omega (arith, n, i)) in
       let five = xor_not_four w (flatten_addends (tree_at ws)) (λ i. omega (arith, n, i)) in
       subst (λ (cs : List def.Candidate). OffersList cs a a)
       (sym (ap₂ (λ (o p : option.Option Expr). tagged 4 (to_list o) ++ (tagged 5 (to_list p) ++ lax_candidates (tree_at ws))) four five))
-      (no_lax ws x k e a f)
-
-module _ (w : ℕ) (t : Expr) (m n : Option Candidate) (a b c d : Offer) where
-  pub sum_offered : made m ≡ def.match_and_via_not_or_plus_a_plus_one w (flatten_addends t) → OffersAll 4 (to_list (made m)) a b
-      → made n ≡ def.match_xor_via_ornot_flat w (flatten_addends t) → OffersAll 5 (to_list (made n)) b c
-      → OffersList (lax_candidates t) c d → OffersList (sum_candidates w t) a d
-  sum_offered e f g h i = joined _ _ a b d (offered_made 4 m _ a b e f) (joined _ _ b c d (offered_made 5 n _ b c g h) i)
+      (no_lax ws x a f)
 
 module _ (number w : ℕ) (t : Expr) (m n o : Option Candidate) (b c d e : Offer) where
   pub all_offered : made m ≡ match_xor_and_absorb t → OffersAll 1 (to_list (made m)) (offer.Left number) b
@@ -118,27 +111,7 @@ module _ (number w : ℕ) (t : Expr) (m n o : Option Candidate) (b c d e : Offer
       (joined _ _ (offer.Left number) b e (offered_made 1 m _ _ b f g) (joined _ _ b c e (offered_made 2 n _ b c h i) (joined _ _ c d e (offered_made 3 o _ c d j k) l))
       ).offers number [] (record { is = add-zero number })
 
-pub ruleset tags = (found_already, no_sum, sum_offered, all_offered)
-
--- ---- `admit`
-
-pub check_refused : (ws : List ℕ) (w room : ℕ) (r : Refusal) → refused (reason_of r) ≡ mapped nodes (checked w ws) → refused (reason_of r) ≡ mapped nodes (checked w ws and_then with_words room)
-check_refused ws w room r e = ap (mapped nodes) (refused_then nodes (with_words room) (checked w ws) e)
-
-module _ (ws : List ℕ) (w room n : ℕ) (e : accepted n ≡ mapped nodes (checked w ws)) where
-  the_tree : Tree w ws n
-  the_tree = checked_tree w ws n e
-
-  pub room_refused : room < 2 * n → refused (refusal 9) ≡ mapped nodes (checked w ws and_then with_words room)
-  room_refused f = let l : room < 2 * nodes the_tree.tree = omega (arith, the_tree.count) in sym (ap (mapped nodes) (too_little _ room the_tree.is l))
-
-  pub admits : 2 * n ≤ room → accepted n ≡ mapped nodes (checked w ws and_then with_words room)
-  admits f = let l : 2 * nodes the_tree.tree ≤ room = omega (arith, the_tree.count) in sym (ap (mapped nodes) (enough _ room the_tree.is l) ∙ ap accepted the_tree.count)
-
-  pub words_fit : Fits w64 (2 * n)
-  words_fit = omega (arith, the_tree.few)
-
-pub ruleset admitting = (check_refused, room_refused, admits, words_fit)
+pub ruleset tags = (found_already, no_sum, all_offered)
 
 -- ---- `hand_over`
 
@@ -199,47 +172,43 @@ pub ruleset handing = (left_less, no_more_lem, candidate_fits, found_answers)
 
 -- ---- `try_match_all`
 
-module _ (ws : List ℕ) (w number room : ℕ) (x : Result ℕ Refusal) (h : outcome x ≡ mapped nodes (checked w ws and_then with_words room)) where
-  module _ (r : Refusal) (e : x ≡ Err r) where
-    turned : candidate_at ws w number room ≡ refused (reason_of r)
+module _ (ws : List ℕ) (w number room : ℕ) where
+  -- what is asked for, of the tree that was read
+  abbrev asked : Outcome Expr → Outcome (Asked def.Candidate)
+  asked o = mapped (λ t. asked_for number (candidates w t)) (o and_then with_words room)
+
+  pub width_no : (r : Reason) → refused r ≡ width_of_call w → refused r ≡ candidate_at ws w number room
+  unfolding candidate_at
+  width_no r e = ap asked (width_refused w r e ws)
+
+  module _ (b : ℕ) (e : accepted b ≡ width_of_call w) where
+    pub words_no : (r : Reason) → refused r ≡ parse ws → refused r ≡ candidate_at ws w number room
     unfolding candidate_at
-    turned = sym (refused_mapped nodes _ (checked w ws and_then with_words room) (ap outcome (sym e) ∙ h))
+    words_no r f = ap asked (f ∙ checked_parse w b e ws)
 
-    pub call_refused : refused (reason_of r) ≡ mapped told (candidate_at ws w number room)
-    call_refused = sym (ap (mapped told) turned)
+    module _ (t : Expr) (f : accepted t ≡ parse ws) where
+      -- `with_room` for no more nodes than the tree has
+      abbrev with_room : Outcome Expr
+      with_room = room_for (λ u. 2 * (nodes u + 0)) room t
 
-    pub refused_unwritten : (out : List ℕ) → out ≡ lent_after candidate_words (candidate_at ws w number room) out
-    refused_unwritten out = sym (ap (λ (o : Outcome (Asked def.Candidate)). lent_after candidate_words o out) turned)
+      call_is : mapped (λ u. asked_for number (candidates w u)) with_room ≡ candidate_at ws w number room
+      unfolding candidate_at room_for
+      call_is = ap (λ (n : ℕ). mapped (λ u. asked_for number (candidates w u)) (if ltb room (2 * n) then refused (refusal 9) else accepted t)) (add-zero (nodes t)) ∙ ap asked (f ∙ checked_parse w b e ws)
 
-  module _ (n : ℕ) (e : x ≡ Ok n) where
-    t : Expr
-    t = (mapped_made nodes (checked w ws and_then with_words room) (ap outcome (sym e) ∙ h)).answer
+      pub room_no : (r : Reason) → refused r ≡ with_room → refused r ≡ candidate_at ws w number room
+      room_no r g = ap (mapped (λ u. asked_for number (candidates w u))) g ∙ call_is
 
-    was : (checked w ws and_then with_words room) ≡ accepted t
-    unfolding t
-    was = (mapped_made nodes (checked w ws and_then with_words room) (ap outcome (sym e) ∙ h)).was
+      module _ (u : Expr) (g : accepted u ≡ with_room) where
+        answer_is : accepted (asked_for number (candidates w u)) ≡ candidate_at ws w number room
+        answer_is = ap (mapped (λ v. asked_for number (candidates w v))) g ∙ call_is
 
-    a : Admitted (λ u. 2 * nodes u) ws w room t
-    a = admitted_sound _ ws w room t was
+        module _ (r : Found) (before after : List ℕ) (h : Answers u w number r before after) where
+          pub answered : accepted (asked_of r) ≡ mapped told (candidate_at ws w number room)
+          answered = ap accepted h.answer ∙ ap (mapped told) answer_is
 
-    pub call_whole : Whole ws
-    call_whole = exact_whole ws t a.exact
+          pub written : after ≡ lent_after candidate_words (candidate_at ws w number room) before
+          written = h.memory ∙ ap (λ (o : Outcome (Asked def.Candidate)). lent_after candidate_words o before) answer_is
 
-    pub call_short : length ws ≤ 1024
-    call_short = omega (arith, exact_length ws t a.exact, a.few)
-
-    pub call_room : length ws ≤ room
-    call_room = omega (arith, exact_length ws t a.exact, a.holds)
-
-    call_is : candidate_at ws w number room ≡ accepted (asked_for number (candidates w (tree_at ws)))
-    unfolding candidate_at
-    call_is = mapped_accepted was _ ∙ ap (λ (u : Expr). accepted (asked_for number (candidates w u))) (sym (exact_tree ws t a.exact))
-
-    module _ (r : Found) (before after : List ℕ) (g : Answers (tree_at ws) w number r before after) where
-      pub call_answered : accepted (asked_of r) ≡ mapped told (candidate_at ws w number room)
-      call_answered = ap accepted g.answer ∙ sym (ap (mapped told) call_is)
-
-      pub call_written : after ≡ lent_after candidate_words (candidate_at ws w number room) before
-      call_written = g.memory ∙ sym (ap (λ (o : Outcome (Asked def.Candidate)). lent_after candidate_words o before) call_is)
-
-pub ruleset calls = (call_refused, refused_unwritten, call_whole, call_short, call_room, call_answered, call_written)
+-- the words of a tree with room
+pub holds_words : (ws : List ℕ) → Whole ws → (room : ℕ) (t : Expr) → accepted (tree_at ws) ≡ room_for (λ u. 2 * (nodes u + 0)) room t → length ws ≤ room
+holds_words ws x room t g = omega (arith, exact_length ws (tree_at ws) x, (roomy _ room (accepted t) (sym g)).1)

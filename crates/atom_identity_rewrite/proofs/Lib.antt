@@ -1,4 +1,4 @@
-pub mod SubtreeLaws
+pub mod NodeLaws
 pub mod OfferLaws
 pub mod AddendLaws
 pub mod ScanLaws

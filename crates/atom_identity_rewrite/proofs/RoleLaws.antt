@@ -17,9 +17,10 @@ use Rattle.expr.specs.OptionalLaws.{not_both, Every, every_at, every_or_else, ev
 use Rattle.rewriting.specs.AtomIdentityRewrite as def
 use Rattle.rewriting.specs.AtomIdentityRewrite.{beside_not_of, any_negated, extract, only, plus_and_minus, is_there, as_one, as_or, as_minus_two, as_minus_twice_or, match_and_via_not_or_plus_a_plus_one, match_xor_via_ornot_flat}
 use Rattle.atom_identity_rewrite.specs.declared.candidate.Candidate.{Candidate}
-use Rattle.atom_identity_rewrite.specs.declared.subtree.Subtree.{Subtree}
+use Rattle.expr.specs.Trees.{tree_of, optional_tree, optional_trees}
+use Rattle.expr.specs.declared.tree.Tree.{Tree}
 use Rattle.atom_identity_rewrite.specs.declared.reading.Roles.{Roles}
-use Rattle.atom_identity_rewrite.specs.Promises.{tree_of, optional_tree, optional_trees, made, xor_of_or_not, remaining, others, first_of, last_signed, Sorted, AndOfRoles, XorOfRoles}
+use Rattle.atom_identity_rewrite.specs.Promises.{made, xor_of_or_not, remaining, others, first_of, last_signed, Sorted, AndOfRoles, XorOfRoles}
 
 -- ---- what `extract` leaves
 
@@ -91,7 +92,7 @@ module _ (f : def.Addend → Option Expr) (g : def.Addend → Option (Expr × Ex
     less : OneLess u.found.1 left
     rest : remaining g (remaining f xs) ≡ left
 
-  or_at : (u : UnitAt) (p : Subtree × Subtree) → r.or ≡ std.Some p → OrAt u (tree_of p.0, tree_of p.1)
+  or_at : (u : UnitAt) (p : Tree × Tree) → r.or ≡ std.Some p → OrAt u (tree_of p.0, tree_of p.1)
   or_at u p e =
       let q = first_some (extract g u.found.1) (tree_of p.0, tree_of p.1) (or_beside u ∙ ap optional_trees e) in
       record {
@@ -167,7 +168,7 @@ module _ (r : Roles) where
             sym (rest_is w xs l s ∙ ap (λ (o : Option ((Expr × Expr) × List def.Addend)). o and_then and_of_left w) (no_or (as_one w) as_or xs r s (unit_4 w xs l s) h));
       }
 
-      module _ (left right : Subtree) (h : r.or ≡ std.Some (left, right)) where
+      module _ (left right : Tree) (h : r.or ≡ std.Some (left, right)) where
         module _ (w : ℕ) (xs : List def.Addend) (l : length xs ≡ 3) (s : Sorted (as_one w) as_or xs r) where
           or_4 : OrAt (as_one w) as_or xs r s (unit_4 w xs l s) (tree_of left, tree_of right)
           or_4 = or_at (as_one w) as_or xs r s (unit_4 w xs l s) (left, right) h
@@ -185,7 +186,7 @@ module _ (r : Roles) where
         pub and_no_plus : r.plus ≡ std.None → AndOfRoles r none
         and_no_plus g = record { is = λ w xs l s. not_both (optional_tree r.plus) (ap optional_tree g) (plus_4 w xs l s) }
 
-        pub and_matched : (a : Subtree) → r.plus ≡ std.Some a → (o : Option Expr)
+        pub and_matched : (a : Tree) → r.plus ≡ std.Some a → (o : Option Expr)
             → o ≡ map (binary And (tree_of a)) (beside_not_of (tree_of a) (tree_of left) (tree_of right)) → AndOfRoles r o
         and_matched a g o k = record {
           is = λ w xs l s.
@@ -271,7 +272,7 @@ module _ (r : Roles) where
           ∙ ap (λ (o : Option ((Expr × Expr) × List def.Addend)). o and_then xor_of_left) (no_or (as_minus_two w) (as_minus_twice_or w) xs r s (unit_5 w xs l s) h));
     }
 
-    module _ (left right : Subtree) (h : r.or ≡ std.Some (left, right)) where
+    module _ (left right : Tree) (h : r.or ≡ std.Some (left, right)) where
       module _ (w : ℕ) (xs : List def.Addend) (l : length xs ≡ 4) (s : Sorted (as_minus_two w) (as_minus_twice_or w) xs r) where
         or_5 : OrAt (as_minus_two w) (as_minus_twice_or w) xs r s (unit_5 w xs l s) (tree_of left, tree_of right)
         or_5 = or_at (as_minus_two w) (as_minus_twice_or w) xs r s (unit_5 w xs l s) (left, right) h
@@ -297,7 +298,7 @@ module _ (r : Roles) where
         is = λ w xs l s. pair_gives w xs l s none (ap (both (optional_tree r.plus)) (ap optional_tree g) ∙ both_none (optional_tree r.plus));
       }
 
-      pub xor_matched : (a : Subtree) → r.plus ≡ std.Some a → (b : Subtree) → r.minus ≡ std.Some b → (o : Option Expr)
+      pub xor_matched : (a : Tree) → r.plus ≡ std.Some a → (b : Tree) → r.minus ≡ std.Some b → (o : Option Expr)
           → o ≡ xor_of_or_not (tree_of left) (tree_of right) (tree_of a) (tree_of b) → XorOfRoles r o
       xor_matched a g b i o k = record {
         is = λ w xs l s. k ∙ pair_gives w xs l s (some (tree_of a, tree_of b)) (ap₂ both (ap optional_tree g) (ap optional_tree i));

@@ -12,11 +12,11 @@ use Rattle.expr.specs.declared.kind.Binary.TheVariants.{Or}
 use Rattle.expr.specs.Optional.{◌or_else◌, only_if, map}
 use Rattle.rewriting.specs.AtomIdentityRewrite as def
 use Rattle.rewriting.specs.AtomIdentityRewrite.{any_negated, extract, is_there, is_masked, as_one, as_or, as_minus_two, as_minus_twice_or, or_in_product}
-use Rattle.expr.specs.Trees.{operands_of}
-use Rattle.atom_identity_rewrite.specs.declared.subtree.Subtree.{Subtree}
+use Rattle.expr.specs.Trees.{tree_of, optional_tree, optional_trees, operands_of}
+use Rattle.expr.specs.declared.tree.Tree.{Tree}
 use Rattle.atom_identity_rewrite.specs.declared.addends.SignedTree.{SignedTree}
 use Rattle.atom_identity_rewrite.specs.declared.reading.Roles.{Roles}
-use Rattle.atom_identity_rewrite.specs.Promises.{tree_of, optional_tree, optional_trees, addend_of, no_roles, others, remaining, first_of, last_signed, Sorted, Sorts, SortsAs}
+use Rattle.atom_identity_rewrite.specs.Promises.{addend_of, no_roles, others, remaining, first_of, last_signed, Sorted, Sorts, SortsAs}
 
 -- ---- `extract` with one addend more
 
@@ -161,11 +161,11 @@ first_there : {B : Type 0} (e : Option (Found B)) → is_there (first_of e) ≡ 
 first_there none = refl
 first_there (some p) = refl
 
-trees_there : (o : std.Option (Subtree × Subtree)) → is_there (optional_trees o) ≡ is_some o
+trees_there : (o : std.Option (Tree × Tree)) → is_there (optional_trees o) ≡ is_some o
 trees_there std.None = refl
 trees_there (std.Some p) = refl
 
-module _ (a : SignedTree) (unit : Bool) (or : std.Option (Subtree × Subtree)) (before : Roles) where
+module _ (a : SignedTree) (unit : Bool) (or : std.Option (Tree × Tree)) (before : Roles) where
   -- whether any addend is subtracted
   abbrev negated : Bool
   negated = before.negated || a.negated
@@ -226,7 +226,7 @@ module _ (a : SignedTree) (unit : Bool) (or : std.Option (Subtree × Subtree)) (
     module _ (d : (there && gone) ≡ false) where
       -- it is neither: the same roles, but for the last of its sign
       module _ (f : def.Addend → Option Expr) (g : def.Addend → Option (Expr × Expr)) (u : unit ≡ is_there (f (addend_of a))) (o : optional_trees or ≡ g (addend_of a)) (xs : List def.Addend) (s : Sorted f g xs before) where
-        rest_sorted : (plus minus : std.Option Subtree)
+        rest_sorted : (plus minus : std.Option Tree)
             → optional_tree plus ≡ last_signed false (remaining g (remaining f xs) ++ (addend_of a ∷ [])) → optional_tree minus ≡ last_signed true (remaining g (remaining f xs) ++ (addend_of a ∷ []))
             → Sorted f g (xs ++ (addend_of a ∷ [])) (record { unit = before.unit; or = before.or; plus = plus; minus = minus; negated = negated })
         rest_sorted plus minus p m =
@@ -269,7 +269,7 @@ there_only_if : (b : Bool) (t : Expr) → b ≡ is_there (only_if b t)
 there_only_if true t = refl
 there_only_if false t = refl
 
-module _ (w : ℕ) (a : SignedTree) (unit : Bool) (or : std.Option (Subtree × Subtree)) (before after : Roles) (s : SortsAs (addend_of a) unit or before after) where
+module _ (w : ℕ) (a : SignedTree) (unit : Bool) (or : std.Option (Tree × Tree)) (before after : Roles) (s : SortsAs (addend_of a) unit or before after) where
   pub sorts_for_and : unit ≡ is_masked w 1 (tree_of a.tree) → optional_trees or ≡ operands_of Or (tree_of a.tree) → Sorts (as_one w) as_or (addend_of a) before after
   sorts_for_and u o = s.sorts (as_one w) as_or (u ∙ there_only_if (is_masked w 1 (tree_of a.tree)) (tree_of a.tree)) o
 

@@ -1,5 +1,5 @@
 -- A candidate's words, written at the front of lent ones. Assumes nothing.
-use Rattle.std.specs.Prelude.{◌≡◌, refl, Bool, true, false, List, [], ◌∷◌, ◌++◌, ℕ, ◌+◌, ◌-◌, ◌≤◌, length}
+use Rattle.std.specs.Prelude.{◌≡◌, Bool, true, false, List, [], ◌∷◌, ◌++◌, ℕ, ◌+◌, ◌-◌, ◌≤◌, length}
 use Rattle.std.proofs.Common.{sym, ap, subst, ◌∙◌, arith, length-append}
 use borrow.Rule.Slice.PartMut.{put_mid}
 use Rattle.expr.specs.Expr.{encode, binary_number}
@@ -7,8 +7,9 @@ use Rattle.expr.specs.Parts.{tail, Laid}
 use Rattle.expr.specs.TailLaws.{length_tail}
 use Rattle.expr.specs.Front.{Whole, tree_at}
 use Rattle.expr.specs.LentLaws.{laid_length, laid_on}
+use Rattle.expr.specs.Trees.{tree_of}
 use Rattle.atom_identity_rewrite.specs.declared.candidate.Candidate.{Candidate}
-use Rattle.atom_identity_rewrite.specs.Promises.{tree_of, second_tree, candidate_tree}
+use Rattle.atom_identity_rewrite.specs.Promises.{second_tree, candidate_tree}
 
 -- ---- `put_second`
 
@@ -27,23 +28,11 @@ module _ (ws : List ℕ) (x : Whole ws) (b : Bool) where
     pub turned_count : 2 + length ws ≡ length (encode (second_tree b (tree_at ws)))
     turned_count = sym turned_long
 
-    module _ (before : List ℕ) (h : length (encode (second_tree b (tree_at ws))) ≤ length before) where
-      pub turned_node : 2 ≤ length before
-      turned_node = omega (arith, turned_long)
+    pub turned_room : (before : List ℕ) → length (encode (second_tree b (tree_at ws))) ≤ length before → 2 + length ws ≤ length before
+    turned_room before h = omega (arith, turned_long)
 
-      module _ (mid : List ℕ) (l : Laid before mid (7 ∷ 0 ∷ [])) where
-        mid_long : length mid ≡ length before
-        mid_long = laid_length before mid (7 ∷ 0 ∷ []) l (omega (arith, turned_long))
-
-        pub turned_inside : 2 ≤ length mid
-        turned_inside = omega (arith, mid_long, turned_long)
-
-        pub turned_room : length ws ≤ length (tail 2 mid)
-        turned_room = omega (arith, length_tail 2 mid, mid_long, turned_long)
-
-        pub turned_laid : (rest : List ℕ) → Laid (tail 2 mid) rest (encode (tree_at ws))
-            → Laid before (put_mid 2 (length mid - 2) mid rest) (encode (second_tree b (tree_at ws)))
-        turned_laid rest m = subst (Laid before (put_mid 2 (length mid - 2) mid rest)) (sym turned_words) (laid_on before mid (7 ∷ 0 ∷ []) l 2 refl rest (encode (tree_at ws)) m)
+    pub turned_laid : (before after : List ℕ) → Laid before after ((7 ∷ 0 ∷ []) ++ encode (tree_at ws)) → Laid before after (encode (second_tree b (tree_at ws)))
+    turned_laid before after l = subst (Laid before after) (sym turned_words) l
 
   module _ (e : b ≡ false) where
     plain_words : encode (second_tree b (tree_at ws)) ≡ encode (tree_at ws)
@@ -58,7 +47,7 @@ module _ (ws : List ℕ) (x : Whole ws) (b : Bool) where
     pub plain_count : length ws ≡ length (encode (second_tree b (tree_at ws)))
     plain_count = long ∙ sym (ap length plain_words)
 
-pub ruleset seconds = (turned_node, turned_inside, turned_room, turned_laid, turned_count, plain_fits, plain_laid, plain_count)
+pub ruleset seconds = (turned_room, turned_laid, turned_count, plain_fits, plain_laid, plain_count)
 
 -- ---- `write_candidate`
 

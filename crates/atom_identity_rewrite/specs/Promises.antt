@@ -3,28 +3,25 @@ use Rattle.std.specs.Prelude.{◌≡◌, Bool, true, false, ◌&&◌, ◌||◌, 
 use Rattle.std.specs.List.{FoldsTo}
 use Rattle.std.proofs.Math.Option as option
 use Rattle.std.proofs.Math.Option.{none, some}
-use Rattle.expr.specs.declared.kind.Unary.TheVariants.{Not, Neg}
 use Rattle.expr.specs.Expr.{Expr, binary}
-use Rattle.expr.specs.declared.kind.Unary.{Unary}
 use Rattle.expr.specs.declared.kind.Binary.TheVariants.{Xor}
 use Rattle.expr.specs.Outcome.{accepted}
 use Rattle.expr.specs.Parts.{part}
 use Rattle.expr.specs.Lent.{lent_after}
 use Rattle.expr.specs.Front.{tree_at}
 use Rattle.expr.specs.Optional.{◌or_else◌, only_if}
+use Rattle.expr.specs.Trees.{tree_of, optional_tree, optional_trees}
+use Rattle.expr.specs.declared.tree.Tree.{Tree}
 use Rattle.rewriting.specs.AtomSimplifier as tree
 use Rattle.rewriting.specs.AtomIdentityRewrite as def
-use Rattle.rewriting.specs.AtomIdentityRewrite.{expr_eq, is_not_of, operand_of_not, operand_of_neg, flatten_addends, any_negated, extract, is_there, is_masked, is_constant_node, as_one, as_or, as_minus_two, as_minus_twice_or, tagged}
+use Rattle.rewriting.specs.AtomIdentityRewrite.{expr_eq, is_not_of, flatten_addends, any_negated, extract, is_there, is_masked, is_constant_node, as_one, as_or, as_minus_two, as_minus_twice_or, tagged}
 use Rattle.rewriting.specs.CandidateClaims.{numbered}
 use Rattle.atom_identity_rewrite.specs.Calls.{asked_for, told, candidate_words}
 use Rattle.atom_identity_rewrite.specs.Answers.{tag_number, asked_of}
 use Rattle.atom_identity_rewrite.specs.Places.{AddendIs, AddendsAre}
 use Rattle.atom_identity_rewrite.specs.declared.Found.{Found}
-use Rattle.atom_identity_rewrite.specs.declared.subtree.Subtree.{Subtree}
-use Rattle.atom_identity_rewrite.specs.declared.kinds.Prefix.{Prefix}
-use Rattle.atom_identity_rewrite.specs.declared.kinds.Prefix.TheVariants as prefix
-use Rattle.atom_identity_rewrite.specs.declared.kinds.Factor.{Factor}
-use Rattle.atom_identity_rewrite.specs.declared.kinds.Factor.TheVariants as factor
+use Rattle.atom_identity_rewrite.specs.declared.node.Factor.{Factor}
+use Rattle.atom_identity_rewrite.specs.declared.node.Factor.TheVariants as factor
 use Rattle.atom_identity_rewrite.specs.declared.addends.Addend.{Addend}
 use Rattle.atom_identity_rewrite.specs.declared.addends.SignedTree.{SignedTree}
 use Rattle.atom_identity_rewrite.specs.declared.candidate.Candidate.{Candidate}
@@ -32,34 +29,12 @@ use Rattle.atom_identity_rewrite.specs.declared.candidate.Offer.{Offer}
 use Rattle.atom_identity_rewrite.specs.declared.candidate.Offer.TheVariants as offer
 use Rattle.atom_identity_rewrite.specs.declared.reading.Roles.{Roles}
 
--- ---- kinds
-
-abbrev pub unary_of : Prefix → Unary
-unary_of prefix.Not = Not
-unary_of prefix.Neg = Neg
-
--- the operand of a node of that kind
-abbrev pub operand_of : Prefix → Expr → option.Option Expr
-operand_of prefix.Not t = operand_of_not t
-operand_of prefix.Neg t = operand_of_neg t
+-- ---- factors
 
 -- the test of a factor beside an Or
 abbrev pub factor_of : Factor → Expr → Bool
 factor_of (factor.Two w) t = is_masked w 2 t
 factor_of factor.Constant t = is_constant_node t
-
--- ---- subtrees
-
-abbrev pub tree_of : Subtree → Expr
-tree_of s = tree_at s.words.now
-
-abbrev pub optional_tree : Option Subtree → option.Option Expr
-optional_tree None = none
-optional_tree (Some s) = some (tree_of s)
-
-abbrev pub optional_trees : Option (Subtree × Subtree) → option.Option (Expr × Expr)
-optional_trees None = none
-optional_trees (Some p) = some (tree_of p.0, tree_of p.1)
 
 -- ---- candidates
 
@@ -168,7 +143,7 @@ pub record Sorts (f : def.Addend → option.Option Expr) (g : def.Addend → opt
   pub sorts : (xs : List def.Addend) → Sorted f g xs before → Sorted f g (xs ++ (x ∷ [])) after
 
 -- one addend more, of which is known whether it is the constant, and the Or that it is or has
-pub record SortsAs (x : def.Addend) (unit : Bool) (or : Option (Subtree × Subtree)) (before after : Roles) : Type 0 where
+pub record SortsAs (x : def.Addend) (unit : Bool) (or : Option (Tree × Tree)) (before after : Roles) : Type 0 where
   pub sorts : (f : def.Addend → option.Option Expr) (g : def.Addend → option.Option (Expr × Expr)) → unit ≡ is_there (f x) → optional_trees or ≡ g x → Sorts f g x before after
 
 -- what tag 4 makes of the roles of three addends

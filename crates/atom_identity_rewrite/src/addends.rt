@@ -1,18 +1,16 @@
-// The addends of a sum. They are gathered in an array by value, which one function copies into a lent list and another reads: document 01's form
-// for lists of structs.
-ghost use Rattle.std.specs.Prelude.{◌≡◌, ◌++◌, ◌%◌, ◌≤◌, length, take, drop};
-ghost use Rattle.expr.specs.Front.{Starts, tree_at};
-ghost use Rattle.expr.specs.Expr.{encode};
+// The addends of a sum. Memory is fixed: they are gathered in an array by value, which one function copies into a lent list and another reads.
+ghost use Rattle.std.specs.Prelude.{◌≡◌, ◌++◌, ◌≤◌, length, take, drop};
+ghost use Rattle.expr.specs.Front.{tree_at};
 ghost use Rattle.rewriting.specs.AtomIdentityRewrite.{flatten_addends};
 ghost use Rattle.atom_identity_rewrite.specs.Places.{AddendsAre};
 ghost use Rattle.atom_identity_rewrite.specs.PlacesLaws.{AddendsAre-prop};
 ghost use Rattle.atom_identity_rewrite.specs.Promises.{addend_of, placed_addend, Addended, Named, Folded, ReadAll};
 
-use crate::subtree::Subtree;
 use expr::kind;
+use expr::tree::Tree;
 
-// The place of an addend's subtree in the lent words, and whether it is subtracted.
-#[derive(Clone, Copy)]
+// The place of an addend's subtree in the words of the sum, and whether it is subtracted.
+#[derive(Clone, Copy, Default)]
 pub(crate) struct Addend {
     pub start: usize,
     pub len: usize,
@@ -22,14 +20,14 @@ pub(crate) struct Addend {
 // A subtree that is added or, where `negated`, subtracted.
 #[derive(Clone, Copy)]
 pub(crate) struct SignedTree<'a> {
-    pub tree: Subtree<'a>,
+    pub tree: Tree<'a>,
     pub negated: bool,
 }
 
-// The addends of a tree: the first `count` of the list. An array by value, as memory is fixed.
+// The addends of a tree: the first `count` of the list.
 #[derive(Clone, Copy)]
 pub(crate) struct Addends<'a> {
-    pub node: Subtree<'a>,
+    pub node: Tree<'a>,
     list: [Addend; 256],
     pub count: usize,
     ghost few: { count ≤ 256 },
@@ -37,27 +35,13 @@ pub(crate) struct Addends<'a> {
     ghost are: { AddendsAre node.words.now (take count list) (flatten_addends (tree_at node.words.now)) } by { AddendsAre-prop node.words.now (take count list) (flatten_addends (tree_at node.words.now)) },
 }
 
-// How many words the tree has that `words` begins with. They are a whole number of nodes, as `expr::span` refuses others.
-fn length_of(words: &[u64]) -> usize
-    requires { Starts words.now × (length words.now % 2 ≡ 0) × (length words.now ≤ 1024) }
-    ensures { result ≡ length (encode (tree_at words.now)) }
-{
-    // a tree's words are not refused
-    expr::span(words).unwrap()
-}
-
 // The addends of the tree, first to last. `push_addend`'s recursion is a loop over the subtrees that are due, and their signs stand in an array
-// with a count beside it, as memory is fixed.
-pub(crate) fn flatten_addends<'a>(node: Subtree<'a>) -> Addends<'a>
+// with a count beside it, as memory is fixed. Not a `for`: a turn goes on by a node or by a whole subtree, until none is due.
+pub(crate) fn flatten_addends<'a>(node: Tree<'a>) -> Addends<'a>
     ensures { tree_at result.node.words.now ≡ tree_at node.entry.words.now }
 {
     let words = node.words;
-    let none = Addend {
-        start: 0,
-        len: 0,
-        negated: false,
-    };
-    let mut list = [none; 256];
+    let mut list = [Addend::default(); 256];
     let mut count = 0;
     // whether each subtree that is due is subtracted, the next one last
     let mut signs = [false; 512];
@@ -78,7 +62,8 @@ pub(crate) fn flatten_addends<'a>(node: Subtree<'a>) -> Addends<'a>
                 start += 2;
             }
             _ => {
-                let len = length_of(&words[start..]);
+                // a tree's words are not refused
+                let len = expr::span(&words[start..]).unwrap();
                 list[count] = Addend {
                     start,
                     len,
@@ -103,13 +88,15 @@ fn fill(out: &mut [Addend], all: &Addends<'_>)
 }
 
 // The addend's own subtree.
-fn signed_tree<'a>(words: &'a [u64], a: Addend) -> SignedTree<'a>
-    requires { Named words.now a × (length words.now ≤ 1024) }
-    ensures { addend_of result ≡ placed_addend words.now a }
+#[tactic(auto, using(crate::proofs::ScanLaws::places))]
+fn signed_tree<'a>(sum: Tree<'a>, a: Addend) -> SignedTree<'a>
+    requires { Named sum.words.now a }
+    ensures { addend_of result ≡ placed_addend sum.entry.words.now a }
 {
+    let words = sum.words;
     let end = a.start + a.len;
     SignedTree {
-        tree: Subtree {
+        tree: Tree {
             words: &words[a.start..end],
         },
         negated: a.negated,
@@ -117,19 +104,20 @@ fn signed_tree<'a>(words: &'a [u64], a: Addend) -> SignedTree<'a>
 }
 
 // The only function that reads the lent list: it hands its addends to `read`, one after the other.
+#[tactic(auto, using(crate::proofs::ScanLaws::named_one, crate::proofs::ScanLaws::none_read, crate::proofs::ScanLaws::read_on))]
 fn scan<'a, S, F: Fn(S, SignedTree<'a>) -> S>(
-    words: &'a [u64],
+    sum: Tree<'a>,
     list: &[Addend],
     start: S,
     read: F,
 ) -> S
-    requires addends { Addended words.now list.now × (length words.now ≤ 1024) }
+    requires addends { Addended sum.words.now list.now }
     requires calls { F.IsAlwaysCallable read }
-    ensures { ReadAll words.now list.now (F.post read) start result }
+    ensures { ReadAll sum.entry.words.now list.now (F.post read) start result }
 {
     let mut state = start;
     for a in list {
-        state = read(state, signed_tree(words, *a));
+        state = read(state, signed_tree(sum, *a));
     }
     state
 }
@@ -144,12 +132,7 @@ pub(crate) fn read_addends<'a, S, F: Fn(S, SignedTree<'a>) -> S>(
     ensures { Folded (F.post read) start (flatten_addends (tree_at all.now.node.words.now)) result }
 {
     let n = all.count;
-    let none = Addend {
-        start: 0,
-        len: 0,
-        negated: false,
-    };
-    let mut list = [none; 256];
+    let mut list = [Addend::default(); 256];
     fill(&mut list, all);
-    scan(all.node.words, &list[0..n], start, read)
+    scan(all.node, &list[0..n], start, read)
 }

@@ -4,19 +4,20 @@ ghost use Rattle.atom_identity_rewrite.specs.Answers.{tag_number};
 ghost use Rattle.atom_identity_rewrite.specs.Promises.{made, OffersAll};
 
 use crate::Tag;
-use crate::subtree::Subtree;
 use expr::kind::Binary;
+use expr::tree::Tree;
 
-// And or Xor of two subtrees; where `negate`, of the first and a Not over the second.
+// And or Xor of two trees; where `negate`, of the first and a Not over the second.
 #[derive(Clone, Copy)]
 pub(crate) struct Candidate<'a> {
     pub kind: Binary,
-    pub first: Subtree<'a>,
+    pub first: Tree<'a>,
     pub negate: bool,
-    pub second: Subtree<'a>,
+    pub second: Tree<'a>,
 }
 
-// The candidate that is asked for, with its tag, or how many are left to pass over before it.
+// The candidate that is asked for, with its tag, or how many are left to pass over before it. Not an `Option`: where all are passed over, what is
+// left tells how many there are.
 #[derive(Clone, Copy)]
 pub(crate) enum Offer<'a> {
     Left(usize),

@@ -2,32 +2,30 @@
 // 01's terms a tree that a matcher offers in place of the node, is decided first, with nothing written, and then turned into words.
 #![tactic(auto)]
 
-ghost use Rattle.std.specs.Prelude.{◌≡◌, ◌*◌, ◌≤◌, length};
-ghost use Rattle.expr.specs.Outcome.{mapped, ◌and_then◌};
+ghost use Rattle.std.specs.Prelude.{◌≡◌, ◌≤◌, length};
+ghost use Rattle.expr.specs.Outcome.{mapped};
 ghost use Rattle.expr.specs.Expr.{nodes};
-ghost use Rattle.expr.specs.Front.{Whole, tree_at};
+ghost use Rattle.expr.specs.Trees.{tree_of};
 ghost use Rattle.expr.specs.Answers.{outcome};
 ghost use Rattle.expr.specs.Lent.{lent_after};
-ghost use Rattle.width.specs.Checked.{checked};
-ghost use Rattle.expr.specs.Room.{with_words};
 ghost use Rattle.rewriting.specs.AtomIdentityRewrite.{lax_candidates, candidates};
 ghost use Rattle.atom_identity_rewrite.specs.Calls.{candidate_at, told, candidate_words};
 ghost use Rattle.atom_identity_rewrite.specs.Answers.{tag_number, candidate_outcome};
-ghost use Rattle.atom_identity_rewrite.specs.Promises.{tree_of, OffersList, sum_candidates, Offered, Answers};
+ghost use Rattle.atom_identity_rewrite.specs.Promises.{OffersList, sum_candidates, Offered, Answers};
 
 mod addends;
 mod candidate;
-mod kinds;
 mod matchers;
+mod node;
 mod reading;
-mod subtree;
 mod write;
 
 use addends::Addends;
 use candidate::Offer;
 use expr::kind;
 use expr::refusal::Refusal;
-use subtree::Subtree;
+use expr::tree::Tree;
+use width::Width;
 
 // The matcher that a candidate is from.
 #[derive(Clone, Copy, PartialEq, Eq)]
@@ -68,10 +66,11 @@ pub enum Found {
 // ---- one tag after the other
 
 // Tags 6 and 7, which only an Add has.
+#[tactic(auto, using(expr::specs::PartLaws::parts, crate::proofs::CallLaws::laxes))]
 fn offer_lax<'a>(all: &Addends<'a>, asked: Offer<'a>) -> Offer<'a>
     ensures { OffersList (lax_candidates (tree_of all.now.node)) asked.entry result }
 {
-    if all.node.kind() != kind::ADD {
+    if all.node.words[0] != kind::ADD {
         return asked;
     }
     let ands = matchers::match_and_via_ornot_lax(all, asked);
@@ -79,7 +78,7 @@ fn offer_lax<'a>(all: &Addends<'a>, asked: Offer<'a>) -> Offer<'a>
 }
 
 // Tags 4 to 7, of a sum.
-fn offer_addends<'a>(node: Subtree<'a>, width: u32, asked: Offer<'a>) -> Offer<'a>
+fn offer_addends<'a>(node: Tree<'a>, width: u32, asked: Offer<'a>) -> Offer<'a>
     ensures { OffersList (sum_candidates width (tree_of node.entry)) asked.entry result }
 {
     let all = addends::flatten_addends(node);
@@ -91,13 +90,13 @@ fn offer_addends<'a>(node: Subtree<'a>, width: u32, asked: Offer<'a>) -> Offer<'
 }
 
 // Tags 4 to 7. The addends are not gathered where the candidate is found already, nor where the root is the only one.
-fn offer_sum<'a>(node: Subtree<'a>, width: u32, asked: Offer<'a>) -> Offer<'a>
+fn offer_sum<'a>(node: Tree<'a>, width: u32, asked: Offer<'a>) -> Offer<'a>
     ensures { OffersList (sum_candidates width (tree_of node.entry)) asked.entry result }
 {
     if let Offer::Found(_, _) = asked {
         return asked;
     }
-    let root = node.kind();
+    let root = node.words[0];
     if root != kind::ADD && root != kind::NEG {
         return asked;
     }
@@ -105,7 +104,7 @@ fn offer_sum<'a>(node: Subtree<'a>, width: u32, asked: Offer<'a>) -> Offer<'a>
 }
 
 // The candidate of that number.
-fn find_candidate<'a>(node: Subtree<'a>, width: u32, number: usize) -> Offer<'a>
+fn find_candidate<'a>(node: Tree<'a>, width: u32, number: usize) -> Offer<'a>
     ensures { Offered number (candidates width (tree_of node.entry)) result }
 {
     let m = matchers::match_xor_and_absorb(node);
@@ -119,19 +118,8 @@ fn find_candidate<'a>(node: Subtree<'a>, width: u32, number: usize) -> Offer<'a>
 
 // ---- the call
 
-// The nodes of a tree whose words `room` words can hold, or the refusal.
-fn admit(words: &[u64], width: u32, room: usize) -> Result<usize, Refusal>
-    ensures { outcome result ≡ mapped nodes (checked width words.now and_then with_words room) }
-{
-    let n = width::check_tree_at(words, width)?;
-    if room < 2 * n {
-        return Err(Refusal::OutputTooSmall);
-    }
-    Ok(n)
-}
-
 // Writes the candidate, once nothing is to be refused.
-fn hand_over(node: Subtree<'_>, width: u32, number: usize, out: &mut [u64]) -> Found
+fn hand_over(node: Tree<'_>, width: u32, number: usize, out: &mut [u64]) -> Found
     requires { length node.words.now ≤ length out.old }
     ensures { Answers (tree_of node.entry) width number result out.old out.new }
 {
@@ -156,6 +144,7 @@ pub fn try_match_all(
 ) -> Result<Found, Refusal>
     ensures { (candidate_outcome result ≡ mapped told (candidate_at words.now width number (length out.old))) × (out.new ≡ lent_after candidate_words (candidate_at words.now width number (length out.old)) out.old) }
 {
-    admit(words, width, out.len())?;
-    Ok(hand_over(Subtree { words }, width, number, out))
+    Width::try_from(width)?;
+    let node = Tree::read(words)?.with_room(out.len(), 0)?;
+    Ok(hand_over(node, width, number, out))
 }

@@ -1,23 +1,24 @@
-// The matchers, each after the Rust's function of its name. A node is a subtree of the lent words, and nothing is written.
+// The matchers, each after the Rust's function of its name. Nothing is written.
 ghost use Rattle.std.specs.Prelude.{◌≡◌};
 ghost use Rattle.expr.specs.Expr.{binary};
 ghost use Rattle.expr.specs.declared.kind.Binary.TheVariants.{And, Xor};
 ghost use Rattle.expr.specs.Optional.{map};
+ghost use Rattle.expr.specs.Trees.{tree_of, optional_tree, optional_trees};
 ghost use Rattle.rewriting.specs.AtomIdentityRewrite.{operand_of_not, beside_not_of, xor_absorb_one, match_xor_and_absorb, same_unordered_pair, xor_of_or_and, match_xor_via_or_minus_and, and_of_or_not, match_and_via_not_or_minus_not, flatten_addends, match_and_via_not_or_plus_a_plus_one, match_xor_via_ornot_flat, match_binary_add_with_neg, lax_and_of, lax_xor_of, lax_and, lax_xor, each};
-ghost use Rattle.atom_identity_rewrite.specs.Promises.{tree_of, optional_tree, optional_trees, made, OffersAll, AndOfRoles, XorOfRoles, xor_of_or_not};
+ghost use Rattle.atom_identity_rewrite.specs.Promises.{made, OffersAll, AndOfRoles, XorOfRoles, xor_of_or_not};
 
 use crate::addends::Addends;
 use crate::candidate::{Candidate, Offer};
-use crate::kinds::Prefix;
+use crate::node::is_not_of;
 use crate::reading::Roles;
-use crate::subtree::Subtree;
 use crate::{Tag, addends, candidate, reading};
-use expr::kind::Binary;
+use expr::kind::{Binary, Unary};
+use expr::tree::Tree;
 
 // ---- tag 1
 
 #[tactic(auto, unfolding(rewriting::specs::AtomIdentityRewrite::match_xor_and_absorb))]
-pub(crate) fn match_xor_and_absorb<'a>(node: Subtree<'a>) -> Option<Candidate<'a>>
+pub(crate) fn match_xor_and_absorb<'a>(node: Tree<'a>) -> Option<Candidate<'a>>
     ensures { made result ≡ match_xor_and_absorb (tree_of node.entry) }
 {
     let (c0, c1) = node.operands(Binary::Xor)?;
@@ -27,8 +28,8 @@ pub(crate) fn match_xor_and_absorb<'a>(node: Subtree<'a>) -> Option<Candidate<'a
     xor_absorb_one(c1, c0)
 }
 
-#[tactic(auto, unfolding(rewriting::specs::AtomIdentityRewrite::xor_absorb_one))]
-fn xor_absorb_one<'a>(x: Subtree<'a>, and_node: Subtree<'a>) -> Option<Candidate<'a>>
+#[tactic(auto, unfolding(rewriting::specs::AtomIdentityRewrite::xor_absorb_one, rewriting::specs::AtomIdentityRewrite::expr_eq))]
+fn xor_absorb_one<'a>(x: Tree<'a>, and_node: Tree<'a>) -> Option<Candidate<'a>>
     ensures { made result ≡ xor_absorb_one (tree_of x.entry) (tree_of and_node.entry) }
 {
     let (a, b) = and_node.operands(Binary::And)?;
@@ -55,7 +56,7 @@ fn xor_absorb_one<'a>(x: Subtree<'a>, and_node: Subtree<'a>) -> Option<Candidate
 
 // The Rust's `pick_or_and` is the kinds that `xor_of_or_and` asks for: an Or is no And, so that at most one of the two orders gives a tree.
 #[tactic(auto, unfolding(rewriting::specs::AtomIdentityRewrite::match_xor_via_or_minus_and))]
-pub(crate) fn match_xor_via_or_minus_and<'a>(node: Subtree<'a>) -> Option<Candidate<'a>>
+pub(crate) fn match_xor_via_or_minus_and<'a>(node: Tree<'a>) -> Option<Candidate<'a>>
     ensures { made result ≡ match_xor_via_or_minus_and (tree_of node.entry) }
 {
     let (lhs, rhs) = match_binary_add_with_neg(node)?;
@@ -67,7 +68,7 @@ pub(crate) fn match_xor_via_or_minus_and<'a>(node: Subtree<'a>) -> Option<Candid
 
 // The Xor of the operands that an Or and an And have in common.
 #[tactic(auto, unfolding(rewriting::specs::AtomIdentityRewrite::xor_of_or_and))]
-fn xor_of_or_and<'a>(or_side: Subtree<'a>, and_side: Subtree<'a>) -> Option<Candidate<'a>>
+fn xor_of_or_and<'a>(or_side: Tree<'a>, and_side: Tree<'a>) -> Option<Candidate<'a>>
     ensures { made result ≡ xor_of_or_and (tree_of or_side.entry) (tree_of and_side.entry) }
 {
     let (a, b) = or_side.operands(Binary::Or)?;
@@ -88,7 +89,7 @@ fn xor_of_or_and<'a>(or_side: Subtree<'a>, and_side: Subtree<'a>) -> Option<Cand
 // The Rust's `pick_kind` and `pick_other` are the kinds that `and_of_or_not` asks for: an Or is no Not, so that at most one of the two orders
 // gives a tree.
 #[tactic(auto, unfolding(rewriting::specs::AtomIdentityRewrite::match_and_via_not_or_minus_not))]
-pub(crate) fn match_and_via_not_or_minus_not<'a>(node: Subtree<'a>) -> Option<Candidate<'a>>
+pub(crate) fn match_and_via_not_or_minus_not<'a>(node: Tree<'a>) -> Option<Candidate<'a>>
     ensures { made result ≡ match_and_via_not_or_minus_not (tree_of node.entry) }
 {
     let (lhs, rhs) = match_binary_add_with_neg(node)?;
@@ -99,17 +100,18 @@ pub(crate) fn match_and_via_not_or_minus_not<'a>(node: Subtree<'a>) -> Option<Ca
 }
 
 // The And of a Not's operand and what stands beside this Not in an Or.
-#[tactic(auto, unfolding(rewriting::specs::AtomIdentityRewrite::and_of_or_not))]
-fn and_of_or_not<'a>(or_side: Subtree<'a>, not_side: Subtree<'a>) -> Option<Candidate<'a>>
+#[tactic(auto, using(rewriting::specs::MatchLaws::not_operand, crate::proofs::NodeLaws::no_not), unfolding(rewriting::specs::AtomIdentityRewrite::and_of_or_not))]
+fn and_of_or_not<'a>(or_side: Tree<'a>, not_side: Tree<'a>) -> Option<Candidate<'a>>
     ensures { made result ≡ and_of_or_not (tree_of or_side.entry) (tree_of not_side.entry) }
 {
+    // the Not first: it takes no span
+    let a_inside_not = not_side.operand(Unary::Not)?;
     let (l, r) = or_side.operands(Binary::Or)?;
-    let a_inside_not = not_side.operand(Prefix::Not)?;
     and_beside(a_inside_not, l, r)
 }
 
 // The And of a and what stands beside Not of a, of l and r; l is tested first.
-fn and_beside<'a>(a: Subtree<'a>, l: Subtree<'a>, r: Subtree<'a>) -> Option<Candidate<'a>>
+fn and_beside<'a>(a: Tree<'a>, l: Tree<'a>, r: Tree<'a>) -> Option<Candidate<'a>>
     ensures { made result ≡ map (binary And (tree_of a.entry)) (beside_not_of (tree_of a.entry) (tree_of l.entry) (tree_of r.entry)) }
 {
     let second = beside_not_of(a, l, r)?;
@@ -123,13 +125,13 @@ fn and_beside<'a>(a: Subtree<'a>, l: Subtree<'a>, r: Subtree<'a>) -> Option<Cand
 
 // Of l and r the one beside Not of a; l is tested first.
 #[tactic(auto, unfolding(rewriting::specs::AtomIdentityRewrite::beside_not_of))]
-fn beside_not_of<'a>(a: Subtree<'a>, l: Subtree<'a>, r: Subtree<'a>) -> Option<Subtree<'a>>
+fn beside_not_of<'a>(a: Tree<'a>, l: Tree<'a>, r: Tree<'a>) -> Option<Tree<'a>>
     ensures { optional_tree result ≡ beside_not_of (tree_of a.entry) (tree_of l.entry) (tree_of r.entry) }
 {
-    if l.is_not_of(a) {
+    if is_not_of(l, a) {
         return Some(r);
     }
-    if r.is_not_of(a) {
+    if is_not_of(r, a) {
         return Some(l);
     }
     None
@@ -137,6 +139,7 @@ fn beside_not_of<'a>(a: Subtree<'a>, l: Subtree<'a>, r: Subtree<'a>) -> Option<S
 
 // ---- tag 4
 
+#[tactic(auto, using(crate::proofs::ReadLaws::role_reads))]
 pub(crate) fn match_and_via_not_or_plus_a_plus_one<'a>(
     all: &Addends<'a>,
     width: u32,
@@ -148,7 +151,7 @@ pub(crate) fn match_and_via_not_or_plus_a_plus_one<'a>(
     }
     let roles = addends::read_addends(
         all,
-        Roles::none(),
+        Roles::default(),
         |roles, a| reading::sort_for_and(width, roles, a),
     );
     and_of_roles(roles)
@@ -169,6 +172,7 @@ fn and_of_roles<'a>(roles: Roles<'a>) -> Option<Candidate<'a>>
 
 // ---- tag 5
 
+#[tactic(auto, using(crate::proofs::ReadLaws::role_reads))]
 pub(crate) fn match_xor_via_ornot_flat<'a>(all: &Addends<'a>, width: u32) -> Option<Candidate<'a>>
     ensures { made result ≡ match_xor_via_ornot_flat width (flatten_addends (tree_of all.now.node)) }
 {
@@ -177,7 +181,7 @@ pub(crate) fn match_xor_via_ornot_flat<'a>(all: &Addends<'a>, width: u32) -> Opt
     }
     let roles = addends::read_addends(
         all,
-        Roles::none(),
+        Roles::default(),
         |roles, a| reading::sort_for_xor(width, roles, a),
     );
     xor_of_roles(roles)
@@ -197,15 +201,11 @@ fn xor_of_roles<'a>(roles: Roles<'a>) -> Option<Candidate<'a>>
 }
 
 // The Xor of a and b, where l and r are a and Not of b, in either order.
-fn xor_of_or_not<'a>(
-    l: Subtree<'a>,
-    r: Subtree<'a>,
-    a: Subtree<'a>,
-    b: Subtree<'a>,
-) -> Option<Candidate<'a>>
+#[tactic(auto, unfolding(rewriting::specs::AtomIdentityRewrite::expr_eq))]
+fn xor_of_or_not<'a>(l: Tree<'a>, r: Tree<'a>, a: Tree<'a>, b: Tree<'a>) -> Option<Candidate<'a>>
     ensures { made result ≡ xor_of_or_not (tree_of l.entry) (tree_of r.entry) (tree_of a.entry) (tree_of b.entry) }
 {
-    if (l.expr_eq(a) && r.is_not_of(b)) || (r.expr_eq(a) && l.is_not_of(b)) {
+    if (l.expr_eq(a) && is_not_of(r, b)) || (r.expr_eq(a) && is_not_of(l, b)) {
         return Some(Candidate {
             kind: Binary::Xor,
             first: a,
@@ -219,6 +219,7 @@ fn xor_of_or_not<'a>(
 // ---- tags 6 and 7
 
 // The root is an Add; each addend that is an Or with a Not is offered as an And.
+#[tactic(auto, using(crate::proofs::ReadLaws::all_offered))]
 pub(crate) fn match_and_via_ornot_lax<'a>(all: &Addends<'a>, asked: Offer<'a>) -> Offer<'a>
     ensures { OffersAll 6 (each lax_and (flatten_addends (tree_of all.now.node))) asked.entry result }
 {
@@ -226,6 +227,7 @@ pub(crate) fn match_and_via_ornot_lax<'a>(all: &Addends<'a>, asked: Offer<'a>) -
 }
 
 // The root is an Add; each addend that is or has an Or with a Not is offered as a Xor.
+#[tactic(auto, using(crate::proofs::ReadLaws::all_offered))]
 pub(crate) fn match_xor_via_ornot_lax<'a>(all: &Addends<'a>, asked: Offer<'a>) -> Offer<'a>
     ensures { OffersAll 7 (each lax_xor (flatten_addends (tree_of all.now.node))) asked.entry result }
 {
@@ -233,7 +235,8 @@ pub(crate) fn match_xor_via_ornot_lax<'a>(all: &Addends<'a>, asked: Offer<'a>) -
 }
 
 // The Ands of an Or's operands: the left Not first.
-pub(crate) fn offer_ands<'a>(asked: Offer<'a>, l: Subtree<'a>, r: Subtree<'a>) -> Offer<'a>
+#[tactic(auto, using(crate::proofs::OfferLaws::two_offered))]
+pub(crate) fn offer_ands<'a>(asked: Offer<'a>, l: Tree<'a>, r: Tree<'a>) -> Offer<'a>
     ensures { OffersAll 6 (lax_and_of (tree_of l.entry, tree_of r.entry)) asked.entry result }
 {
     let one = candidate::with_match(asked, Tag::LaxAnd, and_of_not(l, r));
@@ -241,18 +244,20 @@ pub(crate) fn offer_ands<'a>(asked: Offer<'a>, l: Subtree<'a>, r: Subtree<'a>) -
 }
 
 // The Xors of an Or's operands: the right Not first.
-pub(crate) fn offer_xors<'a>(asked: Offer<'a>, l: Subtree<'a>, r: Subtree<'a>) -> Offer<'a>
+#[tactic(auto, using(crate::proofs::OfferLaws::two_offered))]
+pub(crate) fn offer_xors<'a>(asked: Offer<'a>, l: Tree<'a>, r: Tree<'a>) -> Offer<'a>
     ensures { OffersAll 7 (lax_xor_of (tree_of l.entry, tree_of r.entry)) asked.entry result }
 {
     let one = candidate::with_match(asked, Tag::LaxXor, xor_of_not(r, l));
     candidate::with_match(one, Tag::LaxXor, xor_of_not(l, r))
 }
 
-// The And of a Not's operand and the other subtree.
-fn and_of_not<'a>(not_side: Subtree<'a>, other: Subtree<'a>) -> Option<Candidate<'a>>
+// The And of a Not's operand and the other tree.
+#[tactic(auto, using(rewriting::specs::MatchLaws::not_operand))]
+fn and_of_not<'a>(not_side: Tree<'a>, other: Tree<'a>) -> Option<Candidate<'a>>
     ensures { made result ≡ map (λ x. binary And x (tree_of other.entry)) (operand_of_not (tree_of not_side.entry)) }
 {
-    let inner = not_side.operand(Prefix::Not)?;
+    let inner = not_side.operand(Unary::Not)?;
     Some(Candidate {
         kind: Binary::And,
         first: inner,
@@ -261,11 +266,12 @@ fn and_of_not<'a>(not_side: Subtree<'a>, other: Subtree<'a>) -> Option<Candidate
     })
 }
 
-// The Xor of the other subtree and a Not's operand.
-fn xor_of_not<'a>(not_side: Subtree<'a>, other: Subtree<'a>) -> Option<Candidate<'a>>
+// The Xor of the other tree and a Not's operand.
+#[tactic(auto, using(rewriting::specs::MatchLaws::not_operand))]
+fn xor_of_not<'a>(not_side: Tree<'a>, other: Tree<'a>) -> Option<Candidate<'a>>
     ensures { made result ≡ map (λ y. binary Xor (tree_of other.entry) y) (operand_of_not (tree_of not_side.entry)) }
 {
-    let inner = not_side.operand(Prefix::Not)?;
+    let inner = not_side.operand(Unary::Not)?;
     Some(Candidate {
         kind: Binary::Xor,
         first: other,
@@ -277,25 +283,20 @@ fn xor_of_not<'a>(not_side: Subtree<'a>, other: Subtree<'a>) -> Option<Candidate
 // ---- helpers
 
 // X and Y of `Neg Y + X` or `X + Neg Y`; the left operand is tested first.
-#[tactic(auto, unfolding(rewriting::specs::AtomIdentityRewrite::match_binary_add_with_neg))]
-fn match_binary_add_with_neg<'a>(node: Subtree<'a>) -> Option<(Subtree<'a>, Subtree<'a>)>
+#[tactic(auto, using(rewriting::specs::MatchLaws::neg_operand), unfolding(rewriting::specs::AtomIdentityRewrite::match_binary_add_with_neg))]
+fn match_binary_add_with_neg<'a>(node: Tree<'a>) -> Option<(Tree<'a>, Tree<'a>)>
     ensures { optional_trees result ≡ match_binary_add_with_neg (tree_of node.entry) }
 {
     let (l, r) = node.operands(Binary::Add)?;
-    if let Some(y) = l.operand(Prefix::Neg) {
+    if let Some(y) = l.operand(Unary::Neg) {
         return Some((r, y));
     }
-    let y = r.operand(Prefix::Neg)?;
+    let y = r.operand(Unary::Neg)?;
     Some((l, y))
 }
 
-#[tactic(auto, unfolding(rewriting::specs::AtomIdentityRewrite::same_unordered_pair))]
-fn exprs_equal_as_unordered_pair<'a>(
-    a: Subtree<'a>,
-    b: Subtree<'a>,
-    x: Subtree<'a>,
-    y: Subtree<'a>,
-) -> bool
+#[tactic(auto, unfolding(rewriting::specs::AtomIdentityRewrite::same_unordered_pair, rewriting::specs::AtomIdentityRewrite::expr_eq))]
+fn exprs_equal_as_unordered_pair<'a>(a: Tree<'a>, b: Tree<'a>, x: Tree<'a>, y: Tree<'a>) -> bool
     ensures { result ≡ same_unordered_pair (tree_of a.entry) (tree_of b.entry) (tree_of x.entry) (tree_of y.entry) }
 {
     (a.expr_eq(x) && b.expr_eq(y)) || (a.expr_eq(y) && b.expr_eq(x))

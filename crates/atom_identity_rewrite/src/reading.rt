@@ -1,39 +1,24 @@
 // What is kept while the addends are read, one after the other.
-ghost use Rattle.std.specs.Prelude.{◌≡◌, ◌&&◌};
-ghost use Rattle.rewriting.specs.AtomIdentityRewrite.{is_there, is_masked, as_one, as_or, as_minus_two, as_minus_twice_or, lax_and, lax_xor};
-ghost use Rattle.atom_identity_rewrite.specs.Promises.{tree_of, addend_of, no_roles, SortsAs, Sorts, OffersAll};
+ghost use Rattle.std.specs.Prelude.{◌≡◌};
+ghost use Rattle.rewriting.specs.AtomIdentityRewrite.{is_masked, as_one, as_or, as_minus_two, as_minus_twice_or, lax_and, lax_xor};
+ghost use Rattle.atom_identity_rewrite.specs.Promises.{addend_of, no_roles, SortsAs, Sorts, OffersAll};
 
 use crate::addends::SignedTree;
 use crate::candidate::Offer;
-use crate::kinds::Factor;
 use crate::matchers;
-use crate::subtree::Subtree;
+use crate::node::{Factor, is_masked, or_in_product, or_inside};
 use expr::kind::Binary;
+use expr::tree::Tree;
 
 // The roles of addends in tags 4 and 5: the constant, the Or by its operands, and of the others the last that is added and the last that is subtracted.
-#[derive(Clone, Copy)]
+#[derive(Clone, Copy, Default)]
 pub(crate) struct Roles<'a> {
     pub unit: bool,
-    pub or: Option<(Subtree<'a>, Subtree<'a>)>,
-    pub plus: Option<Subtree<'a>>,
-    pub minus: Option<Subtree<'a>>,
+    pub or: Option<(Tree<'a>, Tree<'a>)>,
+    pub plus: Option<Tree<'a>>,
+    pub minus: Option<Tree<'a>>,
     // whether any addend is subtracted
     pub negated: bool,
-}
-
-impl<'a> Roles<'a> {
-    // Of no addend.
-    pub(crate) fn none() -> Roles<'a>
-        ensures { result ≡ no_roles }
-    {
-        Roles {
-            unit: false,
-            or: None,
-            plus: None,
-            minus: None,
-            negated: false,
-        }
-    }
 }
 
 // ---- tags 4 and 5
@@ -43,7 +28,7 @@ fn sort<'a>(
     before: Roles<'a>,
     a: SignedTree<'a>,
     unit: bool,
-    or: Option<(Subtree<'a>, Subtree<'a>)>,
+    or: Option<(Tree<'a>, Tree<'a>)>,
 ) -> Roles<'a>
     ensures { SortsAs (addend_of a.entry) unit or.entry before.entry result }
 {
@@ -81,7 +66,7 @@ fn sort<'a>(
 pub(crate) fn sort_for_and<'a>(width: u32, roles: Roles<'a>, a: SignedTree<'a>) -> Roles<'a>
     ensures { Sorts (as_one width) as_or (addend_of a.entry) roles.entry result }
 {
-    let unit = a.tree.is_masked(1, width);
+    let unit = is_masked(a.tree, 1, width);
     let or = a.tree.operands(Binary::Or);
     sort(roles, a, unit, or)
 }
@@ -93,14 +78,15 @@ pub(crate) fn sort_for_xor<'a>(width: u32, roles: Roles<'a>, a: SignedTree<'a>) 
     if !a.negated {
         return sort(roles, a, false, None);
     }
-    let unit = a.tree.is_masked(2, width);
-    let or = a.tree.or_in_product(Factor::Two(width));
+    let unit = is_masked(a.tree, 2, width);
+    let or = or_in_product(a.tree, Factor::Two(width));
     sort(roles, a, unit, or)
 }
 
 // ---- tags 6 and 7
 
 // The candidates of a lax And: of an Or that is added, the left Not first.
+#[tactic(auto, using(crate::proofs::OfferLaws::lax_offers))]
 pub(crate) fn lax_and<'a>(asked: Offer<'a>, a: SignedTree<'a>) -> Offer<'a>
     ensures { OffersAll 6 (lax_and (addend_of a.entry)) asked.entry result }
 {
@@ -114,10 +100,11 @@ pub(crate) fn lax_and<'a>(asked: Offer<'a>, a: SignedTree<'a>) -> Offer<'a>
 }
 
 // The candidates of a lax Xor: of an Or, or of one in a product with a Constant, the right Not first.
+#[tactic(auto, using(crate::proofs::OfferLaws::lax_offers))]
 pub(crate) fn lax_xor<'a>(asked: Offer<'a>, a: SignedTree<'a>) -> Offer<'a>
     ensures { OffersAll 7 (lax_xor (addend_of a.entry)) asked.entry result }
 {
-    match a.tree.or_inside() {
+    match or_inside(a.tree) {
         Some((l, r)) => matchers::offer_xors(asked, l, r),
         None => asked,
     }

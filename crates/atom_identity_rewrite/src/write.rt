@@ -2,60 +2,45 @@
 ghost use Rattle.std.specs.Prelude.{◌≡◌, [], ◌∷◌, ◌++◌, ◌+◌, ◌≤◌, length};
 ghost use Rattle.expr.specs.Expr.{encode};
 ghost use Rattle.expr.specs.Parts.{Laid};
-ghost use Rattle.atom_identity_rewrite.specs.Promises.{tree_of, second_tree, candidate_tree};
+ghost use Rattle.expr.specs.Trees.{tree_of};
+ghost use Rattle.atom_identity_rewrite.specs.Promises.{second_tree, candidate_tree};
 
 use crate::candidate::Candidate;
-use crate::kinds::binary_number;
-use crate::subtree::Subtree;
 use expr::kind;
+use expr::tree::Tree;
 
-fn put_node(kind: u64, out: &mut [u64])
-    requires { 2 ≤ length out.old }
-    ensures { Laid out.old out.new (kind ∷ 0 ∷ []) }
-{
-    out[0] = kind;
-    out[1] = 0;
-}
-
-// The subtree's words.
-fn copy_part(part: Subtree<'_>, out: &mut [u64])
-    requires { length part.words.now ≤ length out.old }
-    ensures { Laid out.old out.new (encode (tree_of part.entry)) }
-{
-    expr::copy_words(part.words, out);
-}
-
-// The subtree's words, behind a Not where `negate`; how many they are.
-fn put_second(negate: bool, part: Subtree<'_>, out: &mut [u64]) -> usize
+// The tree's words, behind a Not where `negate`; how many they are.
+fn put_second(negate: bool, part: Tree<'_>, out: &mut [u64]) -> usize
     requires { length (encode (second_tree negate (tree_of part))) ≤ length out.old }
     ensures laid { Laid out.old out.new (encode (second_tree negate (tree_of part.entry))) }
     ensures count { result ≡ length (encode (second_tree negate (tree_of part.entry))) }
 {
     if negate {
-        put_node(kind::NOT, out);
-        copy_part(part, &mut out[2..]);
+        put_first(kind::NOT, part, out);
         return 2 + part.words.len();
     }
-    copy_part(part, out);
+    expr::copy_words(part.words, out);
     part.words.len()
 }
 
-// A node's own words, and those of its first operand.
-fn put_first(kind: u64, part: Subtree<'_>, out: &mut [u64])
+// The two words of a node that holds no number, by its kind's word, and the words of its first operand.
+fn put_first(kind: u64, part: Tree<'_>, out: &mut [u64])
     requires { 2 + length part.words.now ≤ length out.old }
     ensures { Laid out.old out.new ((kind ∷ 0 ∷ []) ++ encode (tree_of part.entry)) }
 {
-    put_node(kind, out);
-    copy_part(part, &mut out[2..]);
+    out[0] = kind;
+    out[1] = 0;
+    expr::copy_words(part.words, &mut out[2..]);
 }
 
 // Writes the candidate, and answers how many words that is.
+#[tactic(auto, using(crate::proofs::WriteLaws::writing))]
 pub(crate) fn write_candidate(c: Candidate<'_>, out: &mut [u64]) -> usize
     requires { length (encode (candidate_tree c)) ≤ length out.old }
     ensures laid { Laid out.old out.new (encode (candidate_tree c.entry)) }
     ensures count { result ≡ length (encode (candidate_tree c.entry)) }
 {
     let right = 2 + c.first.words.len();
-    put_first(binary_number(c.kind), c.first, out);
+    put_first(c.kind.number(), c.first, out);
     right + put_second(c.negate, c.second, &mut out[right..])
 }

@@ -19,7 +19,7 @@ use Rattle.value.specs.Value.{binary_value, value}
 use Rattle.expr.specs.Optional.{only_if, map, ◌and_then◌, ◌or_else◌}
 use Rattle.expr.specs.OptionalLaws.{then_none, Every, if_case, every_only_if, every_unless, every_or_else, every_at, every_on, every_and_then, every_map_on, every_and_then_on}
 use Rattle.rewriting.specs.AtomSimplifier.{not, is_not_kind}
-use Rattle.expr.specs.Trees.{same_kind, operands_of}
+use Rattle.expr.specs.Trees.{same_kind, same_unary, operand_of, operands_of}
 use Rattle.rewriting.specs.AtomIdentityRewrite.{expr_eq, operand_of_not, is_neg_kind, operand_of_neg, is_not_of, beside_not_of, match_binary_add_with_neg, xor_absorb_one, match_xor_and_absorb, same_unordered_pair, xor_of_or_and, match_xor_via_or_minus_and, and_of_or_not, match_and_via_not_or_minus_not, Addend, any_negated, extract, only, plus_and_minus, as_or, or_in_product, is_masked, as_one, match_and_via_not_or_plus_a_plus_one, as_minus_two, as_minus_twice_or, match_xor_via_ornot_flat, is_there, or_not_under_neg}
 use Rattle.rewriting.specs.TestLaws.{not_kind→eq, same_kind→eq}
 use Rattle.rewriting.specs.ShapeLaws.{◌⊑◌, as_it_is, both, swapped, in_turn}
@@ -54,6 +54,35 @@ neg_kind→eq (Shr n) h = absurd h
 neg_kind→eq (ZExt n) h = absurd h
 neg_kind→eq (SExt n) h = absurd h
 neg_kind→eq (Trunc n) h = absurd h
+
+-- the operand of a node of either kind, as `expr` has it
+not_unary : (k : Unary) → same_unary k Not ≡ is_not_kind k
+not_unary Not = refl
+not_unary Neg = refl
+not_unary (Shr n) = refl
+not_unary (ZExt n) = refl
+not_unary (SExt n) = refl
+not_unary (Trunc n) = refl
+
+neg_unary : (k : Unary) → same_unary k Neg ≡ is_neg_kind k
+neg_unary Not = refl
+neg_unary Neg = refl
+neg_unary (Shr n) = refl
+neg_unary (ZExt n) = refl
+neg_unary (SExt n) = refl
+neg_unary (Trunc n) = refl
+
+pub not_operand : (t : Expr) → operand_of Not t ≡ operand_of_not t
+unfolding operand_of operand_of_not
+not_operand (leaf k) = refl
+not_operand (unary k t) = ap (λ (b : Bool). only_if b t) (not_unary k)
+not_operand (binary k l r) = refl
+
+pub neg_operand : (t : Expr) → operand_of Neg t ≡ operand_of_neg t
+unfolding operand_of operand_of_neg
+neg_operand (leaf k) = refl
+neg_operand (unary k t) = ap (λ (b : Bool). only_if b t) (neg_unary k)
+neg_operand (binary k l r) = refl
 
 pub operands : (k : Binary) (t : Expr) → Every (λ p. t ≡ binary k p.0 p.1) (operands_of k t)
 unfolding operands_of

@@ -1,20 +1,25 @@
 -- Each goal is a law of `CallLaws`.
-use Rattle.std.proofs.Common.{rules}
-use Rattle.std.proofs.lemmas.Result.{err_from_is_err_and}
-use Rattle.atom_identity_rewrite.proofs.CallLaws.{calls}
+use Rattle.std.proofs.Common.{rules, length}
+use Rattle.atom_identity_rewrite.proofs.CallLaws.{width_no, words_no, room_no, holds_words, answered, written}
 use Rattle.atom_identity_rewrite.proofs.try_match_all.Goals as goal
 
-ruleset laws = (rules, calls)
+pub returns-in_err-try_from : goal.returns-in_err-try_from
+returns-in_err-try_from c =
+    let stays = width_no c.args.words.now _ c.args.number (length c.args.out.now) _ c.in_err-try_from.ensures in
+    search (rules, stays)
 
-pub returns-in_err-admit : goal.returns-in_err-admit
-returns-in_err-admit c =
-    let p = err_from_is_err_and c.from_residual.result c.from_residual.ensures.1 in rw (p.1, p.2) (search (laws, c.in_err-admit.was), search (laws, c.in_err-admit.was))
+pub returns-in_err-read : goal.returns-in_err-read
+returns-in_err-read c =
+    let stays = words_no c.args.words.now _ c.args.number (length c.args.out.now) _ c.in_ok-try_from.ensures _ c.in_err-read.ensures in
+    search (rules, stays)
 
-pub invariant_of-hand_over : goal.invariant_of-hand_over
-invariant_of-hand_over c = search (laws, c.in_ok-admit.was)
+pub returns-in_err-node : goal.returns-in_err-node
+returns-in_err-node c =
+    let stays = room_no c.args.words.now _ c.args.number _ _ c.in_ok-try_from.ensures _ c.in_ok-read.ensures _ c.in_err-node.ensures in
+    search (rules, stays)
 
 pub hand_over-requires : goal.hand_over-requires
-hand_over-requires c = search (laws, c.in_ok-admit.was)
+hand_over-requires c = search (rules, holds_words, c.in_ok-node.ensures)
 
 pub returns : goal.returns
-returns c = search (laws, c.in_ok-admit.was)
+returns c = search (rules, answered, written, c.in_ok-try_from.ensures, c.in_ok-read.ensures, c.in_ok-node.ensures)

@@ -29,8 +29,8 @@ bounds-signs-top-in-8 c = search laws
 pub loop-due-preserved-in-8 : goal.loop-due-preserved-in-8
 loop-due-preserved-in-8 c = search laws
 
-pub length_of-len-requires : goal.length_of-len-requires
-length_of-len-requires c = search laws
+pub unwrap-len-requires : goal.unwrap-len-requires
+unwrap-len-requires c = search laws
 
 pub bounds-list-count : goal.bounds-list-count
 bounds-list-count c = search laws

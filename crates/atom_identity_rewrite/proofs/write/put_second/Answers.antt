@@ -5,11 +5,8 @@ use Rattle.atom_identity_rewrite.proofs.write.put_second.Goals as goal
 
 ruleset laws = (rules, seconds)
 
-pub put_node-requires : goal.put_node-requires
-put_node-requires c = search laws
-
-pub copy_part-requires : goal.copy_part-requires
-copy_part-requires c = search laws
+pub put_first-requires : goal.put_first-requires
+put_first-requires c = search laws
 
 pub returns-then-negate-clause-laid : goal.returns-then-negate-clause-laid
 returns-then-negate-clause-laid c = search laws
