@@ -1,10 +1,9 @@
 // The call, and what it leaves in the words that it is lent.
 use atom_identity_rewrite::Found;
 use expr::refusal::Refusal;
-use requests::lent;
 use requests::output::{Output, Refused};
-use requests::times;
 use requests::times::Call;
+use requests::{lent, times};
 
 // `places` have their marks.
 #[derive(Drop)]

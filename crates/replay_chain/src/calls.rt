@@ -2,10 +2,9 @@
 use atom_simplifier::chain;
 use atom_simplifier::chain::ChainEnd;
 use expr::refusal::Refusal;
-use requests::lent;
 use requests::output::{Output, Refused};
-use requests::times;
 use requests::times::Call;
+use requests::{lent, times};
 
 // `work` has its marks.
 #[derive(Drop)]

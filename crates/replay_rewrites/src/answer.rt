@@ -28,12 +28,23 @@ impl Answers for Rewrites {
         match (name, numbers) {
             (b"local" | b"local_times", [width, size]) => {
                 let places = lent::lend(&mut room, *size)?;
-                Local { words, width: *width, places }.put(count, out);
+                Local {
+                    words,
+                    width: *width,
+                    places,
+                }
+                .put(count, out);
             }
             (b"site" | b"site_times", [width, size, bytes]) => {
                 let places = lent::lend(&mut room, *size)?;
                 let path = lent::lend(&mut way, *bytes)?;
-                Site { words, width: *width, path, places }.put(count, out);
+                Site {
+                    words,
+                    width: *width,
+                    path,
+                    places,
+                }
+                .put(count, out);
             }
             _ => return None,
         }

@@ -1,10 +1,9 @@
 // The calls, and what they leave in the places that they are lent.
 use atom_simplifier::FoundSite;
 use expr::refusal::Refusal;
-use requests::lent;
 use requests::output::{Output, Refused};
-use requests::times;
 use requests::times::Call;
+use requests::{lent, times};
 
 // `places` have their marks.
 #[derive(Drop)]
