@@ -4,17 +4,22 @@ use crate::arithmetic;
 use expr::refusal::Refusal;
 use expr_cost::ExprCost;
 use requests::output::{Output, Refused};
+use requests::replay::Answers;
 use requests::text;
 use requests::text::MOST_WORDS;
 
 type Outcome = Result<Answer, Refusal>;
 
-pub(crate) fn answer(line: &[u8], out: &mut Output<'_, impl Print>) -> Option<()> {
-    match outcome_of(line)? {
-        Ok(answer) => write!(out, "{answer}"),
-        Err(r) => write!(out, "{}", Refused(r)),
+pub(crate) struct Lists;
+
+impl Answers for Lists {
+    fn answer<P: Print>(line: &[u8], out: &mut Output<'_, P>) -> Option<()> {
+        match outcome_of(line)? {
+            Ok(answer) => write!(out, "{answer}"),
+            Err(r) => write!(out, "{}", Refused(r)),
+        }
+        Some(())
     }
-    Some(())
 }
 
 // What a call gives.

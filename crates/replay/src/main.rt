@@ -6,5 +6,5 @@ mod arithmetic;
 mod lists;
 
 fn main(rt: HostRuntime) {
-    requests::replay::replay(&rt, &mut rt.stdin(), lists::answer);
+    requests::replay::replay::<lists::Lists, _, _>(&rt, &mut rt.stdin());
 }

@@ -1,8 +1,42 @@
 // The call, and what it leaves in the words that it is lent.
 use atom_simplifier::chain;
 use atom_simplifier::chain::ChainEnd;
+use expr::refusal::Refusal;
 use requests::output::{Output, Refused};
+use requests::times::Call;
 use requests::{lent, times};
+
+// `work` has its marks.
+#[derive(Drop)]
+pub(crate) struct Chain<'a, 'b> {
+    pub(crate) words: &'a [u64],
+    pub(crate) width: u32,
+    pub(crate) var_widths: &'a [u32],
+    pub(crate) work: &'b mut [u64],
+}
+
+impl Call for Chain<'_, '_> {
+    type Answer = Result<ChainEnd, Refusal>;
+
+    fn call(&mut self) -> Result<ChainEnd, Refusal> {
+        chain::chain(self.words, self.width, self.var_widths, self.work)
+    }
+}
+
+impl Chain<'_, '_> {
+    // What the last of so many calls gives and leaves.
+    pub(crate) fn put(mut self, count: u32, out: &mut Output<'_, impl Print>) {
+        let outcome = times::last_of(count, &mut self);
+        let work = self.work;
+        match outcome {
+            Ok(end) => put_end(end, work, out),
+            Err(r) => {
+                write!(out, "{}", Refused(r));
+                out.put_untouched(work);
+            }
+        }
+    }
+}
 
 // The end tree, and whether the words behind it are 0.
 fn put_end(end: ChainEnd, work: &[u64], out: &mut Output<'_, impl Print>) {
@@ -17,22 +51,4 @@ fn put_end(end: ChainEnd, work: &[u64], out: &mut Output<'_, impl Print>) {
     out.put_list(&work[..taken]);
     out.put(b" /");
     out.put_place(nonzero, "zero");
-}
-
-// `work` has its marks.
-pub(crate) fn put_chain(
-    words: &[u64],
-    width: u32,
-    var_widths: &[u32],
-    count: u32,
-    work: &mut [u64],
-    out: &mut Output<'_, impl Print>,
-) {
-    match times::last_of(count, || chain::chain(words, width, var_widths, work)) {
-        Ok(end) => put_end(end, work, out),
-        Err(r) => {
-            write!(out, "{}", Refused(r));
-            out.put_untouched(work);
-        }
-    }
 }

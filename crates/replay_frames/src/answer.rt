@@ -1,23 +1,28 @@
 // The answer to a request, by the call that it names.
 use crate::{chunks, digits, frames, trees};
 use requests::output::Output;
+use requests::replay::Answers;
 use requests::text;
 
-pub(crate) fn answer(line: &[u8], out: &mut Output<'_, impl Print>) -> Option<()> {
-    let (name, lists) = text::to_space(line);
-    let Some((first, others)) = text::first_list(lists) else {
-        return of_one_list(name, lists, out);
-    };
-    let mut room = [0u32; 2];
-    match (name, text::numbers_in(first, &mut room)?) {
-        (b"check_tree_at", [width]) => trees::check_tree_at(others, *width, out),
-        (b"copy_words", [size]) => trees::copy_words(others, *size, out),
-        (b"read_nodes", [size]) => digits::read_nodes(others, *size, out),
-        (b"put_nodes", [size]) => digits::put_nodes(others, *size, out),
-        (b"keep", [kept, size]) => chunks::keep(others, *kept, *size, out),
-        (b"read_frame", [size]) => frames::read_frame(others, *size, out),
-        (b"write_frame", [width, size]) => frames::write_frame(others, *width, *size, out),
-        _ => None,
+pub(crate) struct Frames;
+
+impl Answers for Frames {
+    fn answer<P: Print>(line: &[u8], out: &mut Output<'_, P>) -> Option<()> {
+        let (name, lists) = text::to_space(line);
+        let Some((first, others)) = text::first_list(lists) else {
+            return of_one_list(name, lists, out);
+        };
+        let mut room = [0u32; 2];
+        match (name, text::numbers_in(first, &mut room)?) {
+            (b"check_tree_at", [width]) => trees::check_tree_at(others, *width, out),
+            (b"copy_words", [size]) => trees::copy_words(others, *size, out),
+            (b"read_nodes", [size]) => digits::read_nodes(others, *size, out),
+            (b"put_nodes", [size]) => digits::put_nodes(others, *size, out),
+            (b"keep", [kept, size]) => chunks::keep(others, *kept, *size, out),
+            (b"read_frame", [size]) => frames::read_frame(others, *size, out),
+            (b"write_frame", [width, size]) => frames::write_frame(others, *width, *size, out),
+            _ => None,
+        }
     }
 }
 

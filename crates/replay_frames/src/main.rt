@@ -9,5 +9,5 @@ mod frames;
 mod trees;
 
 fn main(rt: HostRuntime) {
-    requests::replay::replay(&rt, &mut rt.stdin(), answer::answer);
+    requests::replay::replay::<answer::Frames, _, _>(&rt, &mut rt.stdin());
 }

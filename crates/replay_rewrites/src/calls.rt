@@ -1,31 +1,85 @@
 // The calls, and what they leave in the places that they are lent.
 use atom_simplifier::FoundSite;
+use expr::refusal::Refusal;
 use requests::output::{Output, Refused};
+use requests::times::Call;
 use requests::{lent, times};
 
 // `places` have their marks.
-pub(crate) fn put_local(
-    words: &[u64],
-    width: u32,
-    count: u32,
-    places: &mut [u64],
-    out: &mut Output<'_, impl Print>,
-) {
-    let rewritten = times::last_of(count, || {
-        atom_simplifier::local_certifiable_atom_rewrite(words, width, places)
-    });
-    match rewritten {
-        Ok(Some(nodes)) => {
-            write!(out, "{nodes:x}");
-            out.put_written(lent::words_of(nodes, places), places);
+#[derive(Drop)]
+pub(crate) struct Local<'a, 'b> {
+    pub(crate) words: &'a [u64],
+    pub(crate) width: u32,
+    pub(crate) places: &'b mut [u64],
+}
+
+impl Call for Local<'_, '_> {
+    type Answer = Result<Option<usize>, Refusal>;
+
+    fn call(&mut self) -> Result<Option<usize>, Refusal> {
+        atom_simplifier::local_certifiable_atom_rewrite(self.words, self.width, self.places)
+    }
+}
+
+impl Local<'_, '_> {
+    // What the last of so many calls gives and leaves.
+    pub(crate) fn put(mut self, count: u32, out: &mut Output<'_, impl Print>) {
+        let rewritten = times::last_of(count, &mut self);
+        let places = self.places;
+        match rewritten {
+            Ok(Some(nodes)) => {
+                write!(out, "{nodes:x}");
+                out.put_written(lent::words_of(nodes, places), places);
+            }
+            Ok(None) => {
+                out.put(b"none");
+                out.put_untouched(places);
+            }
+            Err(r) => {
+                write!(out, "{}", Refused(r));
+                out.put_untouched(places);
+            }
         }
-        Ok(None) => {
-            out.put(b"none");
-            out.put_untouched(places);
-        }
-        Err(r) => {
-            write!(out, "{}", Refused(r));
-            out.put_untouched(places);
+    }
+}
+
+// `path` and `places` have their marks.
+#[derive(Drop)]
+pub(crate) struct Site<'a, 'b> {
+    pub(crate) words: &'a [u64],
+    pub(crate) width: u32,
+    pub(crate) path: &'b mut [u8],
+    pub(crate) places: &'b mut [u64],
+}
+
+impl Call for Site<'_, '_> {
+    type Answer = Result<Option<FoundSite>, Refusal>;
+
+    fn call(&mut self) -> Result<Option<FoundSite>, Refusal> {
+        atom_simplifier::find_first_certifiable_atom_rewrite(
+            self.words,
+            self.width,
+            self.path,
+            self.places,
+        )
+    }
+}
+
+impl Site<'_, '_> {
+    // What the last of so many calls gives and leaves.
+    pub(crate) fn put(mut self, count: u32, out: &mut Output<'_, impl Print>) {
+        let found = times::last_of(count, &mut self);
+        let Site { path, places, .. } = self;
+        match found {
+            Ok(Some(site)) => put_found(site, path, places, out),
+            Ok(None) => {
+                out.put(b"none");
+                put_both_untouched(path, places, out);
+            }
+            Err(r) => {
+                write!(out, "{}", Refused(r));
+                put_both_untouched(path, places, out);
+            }
         }
     }
 }
@@ -46,29 +100,4 @@ fn put_found(site: FoundSite, path: &[u8], places: &[u64], out: &mut Output<'_, 
 fn put_both_untouched(path: &[u8], places: &[u64], out: &mut Output<'_, impl Print>) {
     out.put_untouched(path);
     out.put_kept(places, 0);
-}
-
-// `path` and `places` have their marks.
-pub(crate) fn put_site(
-    words: &[u64],
-    width: u32,
-    count: u32,
-    path: &mut [u8],
-    places: &mut [u64],
-    out: &mut Output<'_, impl Print>,
-) {
-    let found = times::last_of(count, || {
-        atom_simplifier::find_first_certifiable_atom_rewrite(words, width, path, places)
-    });
-    match found {
-        Ok(Some(site)) => put_found(site, path, places, out),
-        Ok(None) => {
-            out.put(b"none");
-            put_both_untouched(path, places, out);
-        }
-        Err(r) => {
-            write!(out, "{}", Refused(r));
-            put_both_untouched(path, places, out);
-        }
-    }
 }

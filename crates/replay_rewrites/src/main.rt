@@ -5,5 +5,5 @@ mod answer;
 mod calls;
 
 fn main(rt: HostRuntime) {
-    requests::replay::replay(&rt, &mut rt.stdin(), answer::answer);
+    requests::replay::replay::<answer::Rewrites, _, _>(&rt, &mut rt.stdin());
 }

@@ -9,13 +9,10 @@ pub fn read_full<R: Read>(reader: &mut R, buf: &mut [u8]) -> usize
     ensures fits { result ≤ length buf.new }
     ensures bytes { Consumes (R.remaining reader.old) (R.remaining reader.new) (take result buf.new) }
 {
-    // counted by hand: no `for` has a number of turns here, and the library's `read_to_end` needs the heap
+    // by `while`: no `for` has a number of turns here, and the library's `read_to_end` needs the heap; where `buf` is full, a read gives 0
     let mut done = 0;
-    while done < buf.len() {
-        match reader.read(&mut buf[done..]) {
-            Ok(0) | Err(_) => break,
-            Ok(n) => done += n,
-        }
+    while let Ok(n @ 1..) = reader.read(&mut buf[done..]) {
+        done += n;
     }
     done
 }

@@ -68,7 +68,9 @@ pub fn words_of(nodes: usize, words: &[u64]) -> usize
 
 impl<P: Print> Output<'_, P> {
     // ` /` and the values.
-    pub fn put_list<T: Copy + Into<u64>>(&mut self, values: &[T]) {
+    pub fn put_list<T: Copy + Into<u64>>(&mut self, values: &[T])
+        ensures { length self.new.buffer.now ≡ length self.old.buffer.now }
+    {
         self.put(b" /");
         for value in values {
             let n: u64 = (*value).into();
@@ -77,7 +79,9 @@ impl<P: Print> Output<'_, P> {
     }
 
     // A place that has not what it should have, else what is said where there is none.
-    pub fn put_place(&mut self, place: Option<usize>, good: &str) {
+    pub fn put_place(&mut self, place: Option<usize>, good: &str)
+        ensures { length self.new.buffer.now ≡ length self.old.buffer.now }
+    {
         match place {
             Some(place) => write!(self, " {place:x}"),
             None => write!(self, " {good}"),
@@ -85,12 +89,16 @@ impl<P: Print> Output<'_, P> {
     }
 
     // Whether the places from `from` on hold their marks.
-    pub fn put_kept<T: Place>(&mut self, places: &[T], from: usize) {
+    pub fn put_kept<T: Place>(&mut self, places: &[T], from: usize)
+        ensures { length self.new.buffer.now ≡ length self.old.buffer.now }
+    {
         self.put_place(changed(places, from), "kept");
     }
 
     // So many values, and whether the places behind them hold their marks.
-    pub fn put_written<T: Place>(&mut self, count: usize, places: &[T]) {
+    pub fn put_written<T: Place>(&mut self, count: usize, places: &[T])
+        ensures { length self.new.buffer.now ≡ length self.old.buffer.now }
+    {
         let taken = count.min(places.len());
         self.put_list(&places[..taken]);
         self.put(b" /");
@@ -98,7 +106,9 @@ impl<P: Print> Output<'_, P> {
     }
 
     // Whether all places hold their marks.
-    pub fn put_untouched<T: Place>(&mut self, places: &[T]) {
+    pub fn put_untouched<T: Place>(&mut self, places: &[T])
+        ensures { length self.new.buffer.now ≡ length self.old.buffer.now }
+    {
         self.put(b" /");
         self.put_kept(places, 0);
     }

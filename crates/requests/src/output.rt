@@ -54,9 +54,19 @@ impl<'a, P: Print> Output<'a, P> {
         self.waiting = 0;
     }
 
-    // What `write!` calls. It cannot fail.
-    pub fn write_fmt<D: fmt::Display + Drop>(&mut self, text: D) {
-        let _ = fmt::Write::write(self, text);
+    // What `write!` calls. It cannot fail. As far as contracts say, a `fmt` may leave any other `Output` in the place of the one that it is lent, so it is
+    // lent one of its own over the same places, and `min` changes nothing. Nor does any contract say that a `fmt` succeeds, even that of a number, so what
+    // waits afterwards is not said.
+    pub fn write_fmt<D: fmt::Display + Drop>(&mut self, text: D)
+        ensures { length self.new.buffer.now ≡ length self.old.buffer.now }
+    {
+        let mut lent = Output {
+            rt: self.rt,
+            buffer: &mut *self.buffer,
+            waiting: self.waiting,
+        };
+        let _ = fmt::Write::write(&mut lent, text);
+        self.waiting = lent.waiting.min(self.buffer.len());
     }
 }
 

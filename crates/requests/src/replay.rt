@@ -1,18 +1,22 @@
 // A program that answers the requests on its input.
+ghost use Rattle.std.specs.Prelude.{◌≤◌, List, ℕ, length};
+ghost use Rattle.std.specs.Io.KnownBytes.{Consumes};
+
 use crate::input::read_full;
 use crate::output::Output;
 use crate::zeros;
 use std::io::Read;
 
-// Answers the requests of a reader, one a line (oracle/README.md has their grammar): writes the line, ` = ` and what `answer` writes. The
-// line is written too so that a change to either stored list shows. Where `answer` gives `None`, the line is no request and gets `?`, which no
-// stored answer is; `answer` has written nothing then.
-pub fn replay<P: Print, A: Fn(&[u8], &mut Output<'_, P>) -> Option<()>>(
-    rt: &P,
-    reader: &mut impl Read,
-    answer: A,
-)
-    requires { A.IsAlwaysCallable answer }
+// What a program answers. A trait, so that `replay` asks nothing: of a closure it would ask that it can be called.
+pub trait Answers {
+    // Writes the answer to a request. `None` where the line is no request; nothing is written then.
+    fn answer<P: Print>(line: &[u8], out: &mut Output<'_, P>) -> Option<()>;
+}
+
+// Answers the requests of a reader, one a line (oracle/README.md has their grammar): writes the line, ` = ` and its answer. The line is written
+// too so that a change to either stored list shows. A line that is no request gets `?`, which no stored answer is.
+pub fn replay<A: Answers, P: Print, R: Read>(rt: &P, reader: &mut R)
+    ensures { (bytes : List ℕ) × (length bytes ≤ 2097152) × Consumes (R.remaining reader.old) (R.remaining reader.new) bytes }
 {
     let mut input = zeros::<u8, 2097152>();
     let n = read_full(reader, &mut input);
@@ -23,26 +27,20 @@ pub fn replay<P: Print, A: Fn(&[u8], &mut Output<'_, P>) -> Option<()>>(
     let mut buffer = [0u8; 65536];
     let mut out = Output::new(rt, &mut buffer);
     for line in input[..n].split_inclusive(|b| *b == b'\n') {
-        put_line(&mut out, line, &answer);
+        put_line::<A, P>(&mut out, line);
     }
     out.flush();
 }
 
 // A last line without its end gets a line `?` alone, so that a list that is cut short or has bytes added to it does not match.
-fn put_line<P: Print, A: Fn(&[u8], &mut Output<'_, P>) -> Option<()>>(
-    out: &mut Output<'_, P>,
-    line: &[u8],
-    answer: &A,
-)
-    requires { A.IsAlwaysCallable answer.now }
-{
+fn put_line<A: Answers, P: Print>(out: &mut Output<'_, P>, line: &[u8]) {
     let Some(request) = line.strip_suffix(b"\n") else {
         out.put(b"?\n");
         return;
     };
     out.put(request);
     out.put(b" = ");
-    if answer(request, out).is_none() {
+    if A::answer(request, out).is_none() {
         out.put(b"?");
     }
     out.put(b"\n");

@@ -1,15 +1,26 @@
 // Calls that are repeated, for measuring their time.
-ghost use Rattle.std.specs.Prelude.{◌≡◌, ◌-◌, List, length};
+ghost use Rattle.std.specs.Prelude.{◌≡◌, ◌-◌, List, length, ⊤};
 ghost use Rattle.std.specs.List.{FoldsTo};
 
+// A call with all that it is lent. A trait, so that `last_of` asks nothing: of a closure it would ask that it can be called, and no field of a
+// struct may say that of a closure.
+pub trait Call {
+    type Answer: Drop;
+
+    // The call may give this answer and leave this behind. The default says nothing.
+    ghost gives: { Self → Self.Answer → Self → Type 0 } = { λ _ _ _. ⊤ };
+
+    fn call(&mut self) -> Self::Answer
+        ensures { gives self.old result self.new };
+}
+
 // The answer of the last of so many calls, or of the one where that is 0.
-pub fn last_of<T: Drop, F: FnMut() -> T>(times: u32, mut call: F) -> T
-    requires { F.IsAlwaysCallable call }
-    ensures { (others : List T) × (before : F) × (after : F)
-        × (length others ≡ times - 1) × FoldsTo F.step call others before × F.step before result after }
+pub fn last_of<C: Call>(times: u32, repeated: &mut C) -> C::Answer
+    ensures { (others : List C.Answer) × (before : C)
+        × (length others ≡ times - 1) × FoldsTo C.gives repeated.old others before × C.gives before result repeated.new }
 {
     for _ in 1..times {
-        call();
+        repeated.call();
     }
-    call()
+    repeated.call()
 }
