@@ -1,5 +1,5 @@
 -- What a decision makes of a node's words. Assumes nothing.
-use mathlib.Core.Path.{◌≡◌, refl, sym, ap, subst, ◌∙◌}
+use mathlib.Core.Path.{◌≡◌, refl, sym, ap, ap₂, subst, ◌∙◌}
 use mathlib.Core.List.{List, [], ◌∷◌, ◌++◌, append_assoc, append-nil}
 use mathlib.Core.Option.{Option, none, some}
 use Prim.Native.Nat.{ℕ, ◌+◌, ◌*◌, ◌-◌, ◌≤◌}
@@ -8,13 +8,16 @@ use lib.ListN.{length, take, drop, get_or, length-append}
 use lib.Seq.{take_at, drop_at}
 use Rattle.std.specs.Prelude.{Some, None}
 use Rattle.std.specs.Prelude as answered
-use Rattle.expr.specs.Expr.{Expr, encode, nodes}
+use Rattle.expr.specs.declared.kind.Binary.{Binary}
+use Rattle.expr.specs.Expr.{Expr, binary, binary_number, encode, nodes}
 use Rattle.expr.specs.ExprLaws.{length_encode}
 use Rattle.expr.specs.Outcome.{accepted}
 use Rattle.expr.specs.Parse.{arity_of}
 use Rattle.expr.specs.Parts.{tail, part}
-use Rattle.expr.specs.TailLaws.{length_tail}
-use Rattle.expr.specs.Front.{Exactly, left_of, right_of}
+use Rattle.expr.specs.Front.{Exactly, Whole, tree_at, left_of, right_of}
+use Rattle.expr.specs.Trees.{operands_of}
+use Rattle.expr.specs.OptionalLaws.{every_at}
+use Rattle.rewriting.specs.MatchLaws.{operands}
 use Rattle.expr.specs.Parts as slice
 use Rattle.expr.specs.PartLaws.{two_children, left_exact, right_exact}
 use Rattle.atom_simplifier.specs.declared.local.Decision.{Decision}
@@ -82,51 +85,72 @@ module _ (ws part : List ℕ) (at : ℕ) (p : Within ws at part) where
       ∙ ap (take (at + n - at)) (drop_at p.front (part ++ p.back) at (sym p.place))
       ∙ take_at part p.back (at + n - at) m
 
--- the right operand's place is even
-pub right_even : (t : Expr) (right : ℕ) → right ≡ 2 + length (encode (left_of t)) → right ≡ 2 * (1 + nodes (left_of t))
-right_even t right q = omega (arith, length_encode (left_of t))
+-- a node's words: its own two, and those of its operands
+module _ (k : Binary) (ws ls rs : List ℕ) (x : Whole ws) (y : Whole ls) (z : Whole rs) (e : some (tree_at ls, tree_at rs) ≡ operands_of k (tree_at ws)) where
+  by_kind : ws ≡ binary_number k ∷ 0 ∷ (ls ++ rs)
+  unfolding encode
+  by_kind =
+      x.words
+      ∙ ap encode (every_at (λ (p : Expr × Expr). tree_at ws ≡ binary k p.0 p.1) (operands_of k (tree_at ws)) (operands k (tree_at ws)) (sym e))
+      ∙ ap₂ (λ (us vs : List ℕ). binary_number k ∷ 0 ∷ (us ++ vs)) (sym y.words) (sym z.words)
+
+  pub placed_words : ws ≡ get_or ws 0 0 ∷ 0 ∷ (ls ++ rs)
+  placed_words = by_kind ∙ ap (λ (n : ℕ). n ∷ 0 ∷ (ls ++ rs)) (sym (ap (λ (us : List ℕ). get_or us 0 0) by_kind))
+
+  module _ (at : ℕ) (h : at + length ws ≤ 1024) where
+    pub left_inside : at + 2 + length ls ≤ 1024
+    left_inside = omega (arith, ap length by_kind, length-append ls rs)
+
+    pub right_inside : at + 2 + length ls + length rs ≤ 1024
+    right_inside = omega (arith, ap length by_kind, length-append ls rs)
 
 -- the operands of a node that is itself a part
-module _ (ws node : List ℕ) (from : ℕ) (p : Within ws from node) (t : Expr) (x : Exactly node t) (a : arity_of (get_or node 0 0) ≡ accepted 2) (right : ℕ) (q : right ≡ 2 + length (encode (left_of t))) where
-  halves : node ≡ get_or node 0 0 ∷ 0 ∷ (encode (left_of t) ++ encode (right_of t))
-  unfolding encode
-  halves =
-      let n = two_children node t x a in
-      x.words ∙ ap encode n.is ∙ ap (λ (k : ℕ). k ∷ 0 ∷ (encode (left_of t) ++ encode (right_of t))) (sym n.number_is)
+module _ (ws node : List ℕ) (at : ℕ) (p : Within ws at node) (k : ℕ) (ls rs : List ℕ) (e : node ≡ k ∷ 0 ∷ (ls ++ rs)) where
+  pub left_within : Within ws (at + 2) ls
+  left_within = part_within ws node at p (k ∷ 0 ∷ []) ls rs e
 
-  pub left_within : Within ws (from + 2) (part 2 right node)
-  left_within =
-      subst (Within ws (from + 2)) (sym (left_exact node t x a right q).words)
-      (part_within ws node from p (get_or node 0 0 ∷ 0 ∷ []) (encode (left_of t)) (encode (right_of t)) halves)
-
-  pub right_within : Within ws (from + right) (tail right node)
+  pub right_within : Within ws (at + 2 + length ls) rs
   right_within =
-      let f : List ℕ = get_or node 0 0 ∷ 0 ∷ encode (left_of t) in
-      let e : length f ≡ right = omega (arith, q) in
-      subst (λ (i : ℕ). Within ws (from + i) (tail right node)) e
-      (subst (Within ws (from + length f)) (sym (right_exact node t x a right q).words)
-      (part_within ws node from p f (encode (right_of t)) [] (halves ∙ ap (λ (l : List ℕ). f ++ l) (sym (append-nil (encode (right_of t)))))))
+      let f : List ℕ = k ∷ 0 ∷ ls in
+      let n : at + length f ≡ at + 2 + length ls = omega arith in
+      subst (λ (i : ℕ). Within ws i rs) n (part_within ws node at p f rs [] (e ∙ ap (λ (us : List ℕ). f ++ us) (sym (append-nil rs))))
 
 -- the whole of the words
 pub all_within : (ws : List ℕ) → Within ws 0 ws
 all_within ws = record { front = []; back = []; words = sym (append-nil ws); place = refl }
 
 -- the operands of the node itself
-module _ (node : List ℕ) (t : Expr) (x : Exactly node t) (a : arity_of (get_or node 0 0) ≡ accepted 2) (right : ℕ) (q : right ≡ 2 + length (encode (left_of t))) where
-  pub left_holds : Holds node 2 (right - 2) (left_of t)
-  left_holds =
-      let l = left_exact node t x a right q in
-      let n : length (encode (left_of t)) ≡ right - 2 = omega arith in
-      let h = part_holds node (part 2 right node) 2 (left_within node node 0 (all_within node) t x a right q) 1 refl (left_of t) l in
-      subst (λ (i : ℕ). Holds node 2 i (left_of t)) (ap length l.words ∙ n) h
+module _ (node : List ℕ) (t : Expr) (x : Exactly node t) (a : arity_of (get_or node 0 0) ≡ accepted 2) (right : ℕ) (q : right ≡ 2 + length (encode (left_of t))) (ls rs : List ℕ) (f : ls ≡ part 2 right node) (g : rs ≡ tail right node) where
+  pub left_words : Exactly ls (left_of t)
+  left_words = subst (λ (us : List ℕ). Exactly us (left_of t)) (sym f) (left_exact node t x a right q)
 
-  -- the right one's words, which end the node's
-  pub right_behind : Within node right (tail right node)
+  pub right_words : Exactly rs (right_of t)
+  right_words = subst (λ (us : List ℕ). Exactly us (right_of t)) (sym g) (right_exact node t x a right q)
+
+  halves : node ≡ get_or node 0 0 ∷ 0 ∷ (ls ++ rs)
+  unfolding encode
+  halves =
+      let n = two_children node t x a in
+      x.words ∙ ap encode n.is
+      ∙ ap (λ (k : ℕ). k ∷ 0 ∷ (encode (left_of t) ++ encode (right_of t))) (sym n.number_is)
+      ∙ ap₂ (λ (us vs : List ℕ). get_or node 0 0 ∷ 0 ∷ (us ++ vs)) (sym left_words.words) (sym right_words.words)
+
+  pub left_behind : Within node 2 ls
+  left_behind = left_within node node 0 (all_within node) (get_or node 0 0) ls rs halves
+
+  pub right_behind : Within node right rs
   right_behind =
-      let p : 0 + right ≡ right = omega arith in
-      subst (λ (i : ℕ). Within node i (tail right node)) p (right_within node node 0 (all_within node) t x a right q)
+      let n : 0 + 2 + length ls ≡ right = omega (arith, q, ap length left_words.words) in
+      subst (λ (i : ℕ). Within node i rs) n (right_within node node 0 (all_within node) (get_or node 0 0) ls rs halves)
 
-  pub right_holds : Holds node right (length node - right) (right_of t)
-  right_holds =
-      let h = part_holds node (tail right node) right right_behind (1 + nodes (left_of t)) (right_even t right q) (right_of t) (right_exact node t x a right q) in
-      subst (λ (i : ℕ). Holds node right i (right_of t)) (length_tail right node) h
+  -- the right one's place is even
+  pub right_even : right ≡ 2 * (1 + nodes (left_of t))
+  right_even = omega (arith, q, length_encode (left_of t))
+
+  pub left_holds : Holds node 2 (length ls) (left_of t)
+  left_holds = part_holds node ls 2 left_behind 1 refl (left_of t) left_words
+
+  pub right_holds : Holds node right (length rs) (right_of t)
+  right_holds = part_holds node rs right right_behind (1 + nodes (left_of t)) right_even (right_of t) right_words
+
+pub ruleset placed = (placed_words, left_inside, right_inside)

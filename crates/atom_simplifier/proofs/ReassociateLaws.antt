@@ -1,24 +1,21 @@
 -- Reassociation, and the fold of a node. Assumes nothing.
-use mathlib.Core.Path.{◌≡◌, refl, sym, ap, subst, ◌∙◌}
-use mathlib.Core.List.{List, [], ◌∷◌}
+use mathlib.Core.Path.{◌≡◌, refl, sym, ap, ap₂, subst, ◌∙◌}
+use mathlib.Core.Bool.{Bool, true, false}
+use mathlib.Core.List.{List, [], ◌∷◌, ◌++◌}
 use mathlib.Core.Option.{Option, none, some}
-use Prim.Native.Nat.{ℕ, ◌+◌, ◌*◌, ◌≤◌, ◌<◌}
+use Prim.Native.Nat.{ℕ, ◌+◌, ◌*◌}
 use native.Mathlib.Omega.{arith}
 use lib.ListN.{length, get_or}
-use mir.Syntax.{w64}
-use mir.Val.{Fits}
-use borrow.Author.Tests.{ne_eqb, eq-eqb}
-use Rattle.expr.specs.Expr.{Expr, leaf, unary, binary, binary_number, encode, nodes}
-use Rattle.expr.specs.Outcome.{accepted}
-use Rattle.expr.specs.Parse.{arity_of, operand_ok, operands_ok}
-use Rattle.expr.specs.Parts.{tail, part}
-use Rattle.expr.specs.TailLaws.{length_tail}
-use Rattle.expr.specs.Front.{Exactly, Whole, tree_at, left_of, right_of}
-use Rattle.expr.specs.PartLaws.{parts, exact_tree, exact_whole, exact_node, two_children, left_exact, left_tree, right_tree, right_most}
-use Rattle.expr.specs.Optional.{map, ◌or_else◌, ◌otherwise◌, option_of}
+use Rattle.expr.specs.declared.kind.Binary.{Binary}
+use Rattle.expr.specs.Expr.{Expr, leaf, unary, binary, encode, nodes}
+use Rattle.expr.specs.Parse.{operand_ok, operands_ok}
+use Rattle.expr.specs.Front.{Exactly, Whole, tree_at}
+use Rattle.expr.specs.PartLaws.{exact_tree, exact_whole, exact_length}
+use Rattle.expr.specs.Trees.{same_kind, operands_of}
+use Rattle.expr.specs.Optional.{only_if, map, ◌or_else◌, ◌otherwise◌, option_of}
 use Rattle.rewriting.specs.AtomSimplifier.{constant, constant_val, kind_of, arms, folded_word, reassociate_constant, try_fold_binary}
 use Rattle.rewriting.specs.FoldLaws.{fold_again, reassociate_is}
-use Rattle.std.specs.Prelude.{Some, None}
+use Rattle.std.specs.Prelude.{Some, None, if◌then◌else◌}
 use Rattle.std.specs.Prelude as answered
 use Rattle.atom_simplifier.specs.declared.fold.Bitwise.{Bitwise}
 use Rattle.atom_simplifier.specs.declared.fold.Arm.{Arm}
@@ -26,8 +23,7 @@ use Rattle.atom_simplifier.specs.declared.fold.Arm.TheVariants as arm
 use Rattle.atom_simplifier.specs.declared.local.Decision.{Decision}
 use Rattle.atom_simplifier.specs.declared.local.Decision.TheVariants.{Part, Constant, Join}
 use Rattle.atom_simplifier.specs.Promises.{arm_tree, bitwise_of, number_of, Within, Makes, Decides, DecidesAt}
-use Rattle.atom_simplifier.proofs.DecideLaws.{not_some, decides_none, decides_some, none_decided, some_decided, part_holds, right_even, left_within, right_within}
-use Rattle.atom_simplifier.proofs.OperandLaws.{bitwise_arity, number_found, found_arity, number_missed}
+use Rattle.atom_simplifier.proofs.DecideLaws.{decides_none, decides_some, none_decided, some_decided, part_holds, left_within, right_within}
 
 -- ---- the words of a constant
 
@@ -67,9 +63,9 @@ module _ (op : Bitwise) (w from : ℕ) (part : List ℕ) (t : Expr) (c : ℕ) wh
     arm_constant v f = by_arm (Constant v) (arm.Constant v) f (λ ws half j p i. refl)
 
     module _ (x : Exactly part t) where
-      pub arm_left : a ≡ arm.Left → Beside (Part from (length part))
+      pub arm_left : a ≡ arm.Left → (d : Decision) → d ≡ Part from (length part) → Beside d
       unfolding Makes
-      arm_left f = by_arm (Part from (length part)) arm.Left f (λ ws half j p i. part_holds ws part from p half j t x)
+      arm_left f d e = subst Beside (sym e) (by_arm (Part from (length part)) arm.Left f (λ ws half j p i. part_holds ws part from p half j t x))
 
       pub arm_node : a ≡ arm.Node → Beside (Join from (length part) c)
       unfolding Makes
@@ -77,89 +73,65 @@ module _ (op : Bitwise) (w from : ℕ) (part : List ℕ) (t : Expr) (c : ℕ) wh
 
 -- ---- `reassociate_constant`
 
-module _ (op : Bitwise) (lhs : List ℕ) (from w c : ℕ) where
-  abbrev Reassociated : Expr → answered.Option Decision → Type 0
-  Reassociated t r = DecidesAt (number_of op) from lhs r (reassociate_constant w (bitwise_of op) t c)
+module _ (op : Bitwise) (lhs : List ℕ) (at w c : ℕ) (t : Expr) where
+  abbrev Reassociated : answered.Option Decision → Type 0
+  Reassociated r = DecidesAt (number_of op) at lhs r (reassociate_constant w (bitwise_of op) t c)
 
-  nothing : (t : Expr) → reassociate_constant w (bitwise_of op) t c ≡ none → Reassociated t None
-  nothing t e = record { in_node = λ ws half j p i. decides_none ws _ e }
+  abbrev folded_beside : Expr → ℕ → Expr
+  folded_beside u d = try_fold_binary w (bitwise_of op) u (constant (folded_word w (bitwise_of op) d c))
 
-  pub other_kind : (t : Expr) → Exactly lhs t → (get_or lhs 0 0 ≡ number_of op → ⊥) → Reassociated t None
-  unfolding encode reassociate_constant
-  other_kind (leaf j) x f = nothing (leaf j) refl
-  other_kind (unary j t) x f = nothing (unary j t) refl
-  other_kind (binary j l r) x f =
-      nothing (binary j l r) (simp (ne_eqb (binary_number j) (number_of op) (λ e. f (ap (λ (v : List ℕ). get_or v 0 0) x.words ∙ e))))
+  -- the definition, by the operands
+  abbrev of_operands : Option (Expr × Expr) → Option Expr
+  of_operands none = none
+  of_operands (some p) = map (folded_beside p.0) (constant_val w p.1) or_else map (folded_beside p.1) (constant_val w p.0)
 
-  module _ (t : Expr) (x : Exactly lhs t) (e : get_or lhs 0 0 ≡ number_of op) (right : ℕ) (q : right ≡ 2 + length (encode (left_of t))) where
-    a : arity_of (get_or lhs 0 0) ≡ accepted 2
-    a = bitwise_arity lhs op e
+  by_operands : (s : Expr) → reassociate_constant w (bitwise_of op) s c ≡ of_operands (operands_of (kind_of (bitwise_of op)) s)
+  unfolding reassociate_constant operands_of
+  by_operands (leaf j) = refl
+  by_operands (unary j s) = refl
+  by_operands (binary j l r) = reassociate_is w (bitwise_of op) j l r c ∙ go (same_kind j (kind_of (bitwise_of op)))
+    where
+      go : (b : Bool) → (if b then of_operands (some (l, r)) else none) ≡ of_operands (only_if b (l, r))
+      go true = refl
+      go false = refl
 
-    -- the definition, once the constants are known
-    made : (o p : Option ℕ) → constant_val w (right_of t) ≡ o → constant_val w (left_of t) ≡ p
-        → reassociate_constant w (bitwise_of op) t c
-        ≡ (map (λ d. try_fold_binary w (bitwise_of op) (left_of t) (constant (folded_word w (bitwise_of op) d c))) o
-        or_else map (λ d. try_fold_binary w (bitwise_of op) (right_of t) (constant (folded_word w (bitwise_of op) d c))) p)
-    made o p f g =
-        let n = two_children lhs t x a in
-        ap (λ (s : Expr). reassociate_constant w (bitwise_of op) s c) n.is
-        ∙ reassociate_is w (bitwise_of op) n.kind (left_of t) (right_of t) c
-        ∙ simp (eq-eqb (binary_number n.kind) (number_of op) (sym n.number_is ∙ e), f, g)
+  module _ (k : Binary) (f : k ≡ kind_of (bitwise_of op)) where
+    operands_known : (o : Option (Expr × Expr)) → o ≡ operands_of k t → reassociate_constant w (bitwise_of op) t c ≡ of_operands o
+    operands_known o e = by_operands t ∙ ap of_operands (ap (λ (j : Binary). operands_of j t) (sym f) ∙ sym e)
 
-    module _ (v : answered.Option ℕ) (g : option_of v ≡ constant_val w (tree_at (tail right lhs))) where
-      right_val : constant_val w (right_of t) ≡ option_of v
-      right_val = sym (g ∙ ap (constant_val w) (right_tree lhs t x a right q))
+    nothing : reassociate_constant w (bitwise_of op) t c ≡ none → Reassociated None
+    nothing e = record { in_node = λ ws half j p i. decides_none ws _ e }
 
-      pub from_right_lem : (d : ℕ) (r : Decision) → v ≡ Some d
-          → DecidesAt (number_of op) (from + 2) (part 2 right lhs) (Some r) (some (try_fold_binary w (bitwise_of op) (tree_at (part 2 right lhs)) (constant (folded_word w (bitwise_of op) d c)))) → Reassociated t (Some r)
-      from_right_lem d r f h = record {
-        in_node = λ ws half j p i.
-            subst (Decides ws (Some r))
-            (ap (λ (s : Expr). some (try_fold_binary w (bitwise_of op) s (constant (folded_word w (bitwise_of op) d c)))) (left_tree lhs t x a right q)
-            ∙ sym (made (some d) (constant_val w (left_of t)) (right_val ∙ ap option_of f) refl))
-            (h.in_node ws (half + 1) (omega arith) (left_within ws lhs from p t x a right q) i);
+    pub other_kind : none ≡ operands_of k t → Reassociated None
+    other_kind e = nothing (operands_known none e)
+
+    -- the operands, with their places
+    module _ (ls rs : List ℕ) (e : some (tree_at ls, tree_at rs) ≡ operands_of k t) (left right : ℕ)
+        (h : (left ≡ at + 2) × (right ≡ left + length ls) × (lhs ≡ get_or lhs 0 0 ∷ 0 ∷ (ls ++ rs))) (v : answered.Option ℕ) (g : option_of v ≡ constant_val w (tree_at rs)) where
+      made : (o p : Option ℕ) → constant_val w (tree_at rs) ≡ o → constant_val w (tree_at ls) ≡ p
+          → reassociate_constant w (bitwise_of op) t c ≡ (map (folded_beside (tree_at ls)) o or_else map (folded_beside (tree_at rs)) p)
+      made o p i j =
+          operands_known (some (tree_at ls, tree_at rs)) e
+          ∙ ap₂ (λ (x y : Option ℕ). map (folded_beside (tree_at ls)) x or_else map (folded_beside (tree_at rs)) y) i j
+
+      pub from_right : (d : ℕ) (r : Decision) → v ≡ Some d → DecidesAt (number_of op) left ls (Some r) (some (folded_beside (tree_at ls) d)) → Reassociated (Some r)
+      from_right d r i m = record {
+        in_node = λ ws half j p n.
+            subst (Decides ws (Some r)) (sym (made (some d) (constant_val w (tree_at ls)) (sym g ∙ ap option_of i) refl))
+            (m.in_node ws (half + 1) (omega (arith, h.0)) (subst (λ (x : ℕ). Within ws x ls) (sym h.0) (left_within ws lhs at p (get_or lhs 0 0) ls rs h.2)) n);
       }
 
-      module _ (f : v ≡ None) (y : answered.Option ℕ) (h : option_of y ≡ constant_val w (tree_at (part 2 right lhs))) where
-        left_val : constant_val w (left_of t) ≡ option_of y
-        left_val = sym (h ∙ ap (constant_val w) (left_tree lhs t x a right q))
+      module _ (i : v ≡ None) (y : answered.Option ℕ) (m : option_of y ≡ constant_val w (tree_at ls)) where
+        pub no_constants : y ≡ None → (r : answered.Option Decision) → r ≡ None → Reassociated r
+        no_constants n r q = subst Reassociated (sym q) (nothing (made none none (sym g ∙ ap option_of i) (sym m ∙ ap option_of n)))
 
-        pub no_constants : y ≡ None → Reassociated t None
-        no_constants n = nothing t (made none none (right_val ∙ ap option_of f) (left_val ∙ ap option_of n))
-
-        pub from_left : (d : ℕ) (r : Decision) → y ≡ Some d
-            → DecidesAt (number_of op) (from + right) (tail right lhs) (Some r) (some (try_fold_binary w (bitwise_of op) (tree_at (tail right lhs)) (constant (folded_word w (bitwise_of op) d c)))) → Reassociated t (Some r)
-        from_left d r n j = record {
-          in_node = λ ws half m p l.
-              subst (Decides ws (Some r))
-              (ap (λ (s : Expr). some (try_fold_binary w (bitwise_of op) s (constant (folded_word w (bitwise_of op) d c)))) (right_tree lhs t x a right q)
-              ∙ sym (made none (some d) (right_val ∙ ap option_of f) (left_val ∙ ap option_of n)))
-              (j.in_node ws (half + (1 + nodes (left_of t))) (omega (arith, right_even t right q)) (right_within ws lhs from p t x a right q) l);
+        pub from_left : Whole ls → (d : ℕ) (r : Decision) → y ≡ Some d → DecidesAt (number_of op) right rs (Some r) (some (folded_beside (tree_at rs) d)) → Reassociated (Some r)
+        from_left x d r n q = record {
+          in_node = λ ws half j p s.
+              let place : right ≡ at + 2 + length ls = h.1 ∙ ap (λ (a : ℕ). a + length ls) h.0 in
+              subst (Decides ws (Some r)) (sym (made none (some d) (sym g ∙ ap option_of i) (sym m ∙ ap option_of n)))
+              (q.in_node ws (half + 1 + nodes (tree_at ls)) (omega (arith, place, exact_length ls (tree_at ls) x)) (subst (λ (a : ℕ). Within ws a rs) (sym place) (right_within ws lhs at p (get_or lhs 0 0) ls rs h.2)) s);
         }
-
--- the calls on the operands
-module _ (lhs : List ℕ) (t : Expr) (x : Exactly lhs t) (a : arity_of (get_or lhs 0 0) ≡ accepted 2) (right : ℕ) (q : right ≡ 2 + length (encode (left_of t))) (from : ℕ) (h : from + length lhs ≤ 1024) where
-  most : right ≤ length lhs
-  most = right_most lhs t x a right q
-
-  pub left_fits : Fits w64 (from + 2)
-  left_fits = omega (arith, exact_node lhs t x)
-
-  pub right_fits : Fits w64 (from + right)
-  right_fits = omega (arith, most)
-
-  pub left_room : from + 2 + length (part 2 right lhs) ≤ 1024
-  left_room = omega (arith, ap length (left_exact lhs t x a right q).words, most)
-
-  pub right_room : from + right + length (tail right lhs) ≤ 1024
-  right_room = omega (arith, length_tail right lhs, most)
-
-  -- the measure falls
-  pub left_falls : (n : ℕ) → 2 * length lhs ≡ n → 2 * length (part 2 right lhs) + 1 < n
-  left_falls n i = omega (arith, ap length (left_exact lhs t x a right q).words, most)
-
-  pub right_falls : (n : ℕ) → 2 * length lhs ≡ n → 2 * length (tail right lhs) + 1 < n
-  right_falls n i = omega (arith, length_tail right lhs, most)
 
 -- ---- `fold_constants`
 
@@ -188,11 +160,6 @@ module _ (op : Bitwise) (from w d c m : ℕ) (part : List ℕ) (t : Expr) (e : m
         subst (Decides ws (Some r)) (ap (λ (u : Expr). some u) (folds none (none_decided ws q _ (h.in_node ws half j p i) f))) (g.in_node ws half j p i);
   }
 
-pub place_short : (from : ℕ) (part : List ℕ) → from + length part ≤ 1024 → length part ≤ 1024
-place_short from part h = omega arith
+pub ruleset folded_two = (found_folded, none_folded)
 
-pub ruleset folded_two = (found_folded, none_folded, place_short)
-
-pub ruleset reassociation = (parts, not_some, number_found, found_arity, number_missed, other_kind, left_fits, right_fits, left_room, right_room, left_falls, right_falls, from_right_lem, no_constants, from_left)
-
-pub ruleset folded = (constant_whole, arm_right, arm_constant, arm_left, arm_node)
+pub ruleset beside = (constant_whole, arm_right, arm_constant, arm_left, arm_node)

@@ -66,6 +66,7 @@ fn constant_val(tree: Tree<'_>, width: Width) -> Option<u64>
 }
 
 // The only place where parts are compared: word by word, whatever the width.
+#[tactic(auto, unfolding(rewriting::specs::AtomSimplifier::same_part))]
 pub(crate) fn same_part(a: Tree<'_>, b: Tree<'_>, width: Width) -> bool
     ensures { result ≡ same_part width.bits (tree_of a.entry) (tree_of b.entry) }
 {
@@ -73,6 +74,7 @@ pub(crate) fn same_part(a: Tree<'_>, b: Tree<'_>, width: Width) -> bool
 }
 
 // Whether the tree is the Constant c.
+#[tactic(auto, unfolding(crate::specs::Promises::is_constant))]
 pub(crate) fn is_constant(tree: Tree<'_>, c: u64, width: Width) -> bool
     ensures { result ≡ is_constant width.bits (tree_of tree.entry) c }
 {
@@ -80,6 +82,7 @@ pub(crate) fn is_constant(tree: Tree<'_>, c: u64, width: Width) -> bool
 }
 
 // Trees are compared as the width has it; the candidates' `is_not_of` compares them raw.
+#[tactic(auto, using(crate::proofs::OperandLaws::not_tests))]
 fn is_not_of(outer: Tree<'_>, inner: Tree<'_>, width: Width) -> bool
     ensures { result ≡ is_not_of width.bits (tree_of outer.entry) (tree_of inner.entry) }
 {
@@ -89,6 +92,7 @@ fn is_not_of(outer: Tree<'_>, inner: Tree<'_>, width: Width) -> bool
     }
 }
 
+#[tactic(auto, unfolding(rewriting::specs::AtomSimplifier::are_complements))]
 fn are_complements(a: Tree<'_>, b: Tree<'_>, width: Width) -> bool
     ensures { result ≡ are_complements width.bits (tree_of a.entry) (tree_of b.entry) }
 {
@@ -96,6 +100,7 @@ fn are_complements(a: Tree<'_>, b: Tree<'_>, width: Width) -> bool
 }
 
 // Whether `whole` is a node of the kind `op` with `part` as one of its two operands.
+#[tactic(auto, using(crate::proofs::OperandLaws::operand_tests))]
 fn contains_operand(whole: Tree<'_>, op: Binary, part: Tree<'_>, width: Width) -> bool
     ensures { result ≡ contains_operand width.bits (tree_of whole.entry) op (tree_of part.entry) }
 {
@@ -153,6 +158,7 @@ impl BinaryFold {
         }
     }
 
+    #[tactic(auto, using(crate::proofs::ArmLaws::constants))]
     fn constant_arms(self, lhs: Tree<'_>, rhs: Tree<'_>) -> Arm
         ensures { arm_tree (bitwise_of self.op) (tree_of lhs.entry) (tree_of rhs.entry) result ≡ constant_arms self.width.bits (bitwise_of self.op) (tree_of lhs.entry) (tree_of rhs.entry) }
     {
@@ -172,6 +178,7 @@ impl BinaryFold {
     }
 
     // Complements, absorption, and the constants 0 and all ones.
+    #[tactic(auto, using(crate::proofs::ArmLaws::operands))]
     fn arms(self, lhs: Tree<'_>, rhs: Tree<'_>) -> Arm
         ensures { arm_tree (bitwise_of self.op) (tree_of lhs.entry) (tree_of rhs.entry) result ≡ arms self.width.bits (bitwise_of self.op) (tree_of lhs.entry) (tree_of rhs.entry) }
     {
@@ -202,6 +209,7 @@ impl BinaryFold {
     }
 
     // What the arms make of the part and the constant c.
+    #[tactic(auto, using(crate::proofs::ReassociateLaws::beside))]
     fn constant_beside(self, part: Placed<'_>, c: u64) -> Decision
         ensures { DecidesAt (number_of self.op) part.entry.at part.entry.tree.words.now (Some result) (some (arms self.width.bits (bitwise_of self.op) (tree_of part.entry.tree) (constant c))) }
     {
@@ -216,6 +224,7 @@ impl BinaryFold {
 
     // The fold of the part with the constants d and c as one.
     #[cycle(fold_constants_reassociate_constant)]
+    #[tactic(auto, using(crate::proofs::ReassociateLaws::folded_two))]
     fn fold_constants(self, part: Placed<'_>, d: u64, c: u64) -> Decision
         ensures { DecidesAt (number_of self.op) part.entry.at part.entry.tree.words.now (Some result) (some (try_fold_binary self.width.bits (bitwise_of self.op) (tree_of part.entry.tree) (constant (folded_word self.width.bits (bitwise_of self.op) d c)))) }
     {
@@ -229,6 +238,7 @@ impl BinaryFold {
     // `(x op d) op c`, or `(d op x) op c`, as the fold of x and `d op c`; `lhs` is the inner node. The Rust calls `try_fold_binary` again here,
     // whose right operand is then that constant.
     #[cycle(fold_constants_reassociate_constant)]
+    #[tactic(auto, using(crate::proofs::ReassociateLaws::other_kind))]
     fn reassociate_constant(self, lhs: Placed<'_>, rhs_const: u64) -> Option<Decision>
         ensures { DecidesAt (number_of self.op) lhs.entry.at lhs.entry.tree.words.now result (reassociate_constant self.width.bits (bitwise_of self.op) (tree_of lhs.entry.tree) rhs_const) }
     {
@@ -241,6 +251,7 @@ impl BinaryFold {
     }
 
     // Reassociation of the operand x with the other operand y, where y is a constant.
+    #[tactic(auto, using(crate::proofs::NodeFoldLaws::beside_none))]
     fn reassociate_beside(self, x: Placed<'_>, y: Tree<'_>) -> Option<Decision>
         ensures { DecidesAt (number_of self.op) x.entry.at x.entry.tree.words.now result (constant_val self.width.bits (tree_of y.entry) and_then reassociate_constant self.width.bits (bitwise_of self.op) (tree_of x.entry.tree)) }
     {
@@ -263,6 +274,7 @@ impl NodeFold<'_> {
     ghost use Rattle.atom_simplifier.specs.Promises.{arm_rewrite, Decides};
 
     // What the arms make of the node, where it is another tree.
+    #[tactic(auto, using(crate::proofs::NodeFoldLaws::node_arms))]
     fn arm_rewrite(self) -> Option<Decision>
         ensures { Decides self.entry.operands.node.words.now result (arm_rewrite self.entry.by.width.bits (bitwise_of self.entry.by.op) (left_of (tree_of self.entry.operands.node)) (right_of (tree_of self.entry.operands.node))) }
     {
@@ -278,6 +290,7 @@ impl NodeFold<'_> {
 
     // The fold, where it gives another tree: reassociation with the right operand's constant, or else with the left one's, or else the arms. Such
     // a tree has fewer nodes (ShapeLaws, `reassociated_less`), so that the two are not compared.
+    #[tactic(auto, using(crate::proofs::NodeFoldLaws::node_fold))]
     pub(crate) fn try_fold_binary(self) -> Option<Decision>
         ensures { Decides self.entry.operands.node.words.now result (fold_rewrite self.entry.by.width.bits (bitwise_of self.entry.by.op) (left_of (tree_of self.entry.operands.node)) (right_of (tree_of self.entry.operands.node))) }
     {

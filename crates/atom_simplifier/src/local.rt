@@ -27,6 +27,7 @@ pub(crate) enum Decision {
 }
 
 // A Not over the tree: the operand of a second Not; De Morgan, where it is over an And or Or of which one operand is a Not.
+#[tactic(auto, using(crate::proofs::LocalLaws::not_rule))]
 fn not_rewrite(below: Tree<'_>) -> Option<Decision>
     ensures { Decides (unary_number Not ∷ 0 ∷ below.entry.words.now) result (not_rewrite (tree_of below.entry)) }
 {
@@ -43,6 +44,7 @@ fn not_rewrite(below: Tree<'_>) -> Option<Decision>
 }
 
 // A node with one child.
+#[tactic(auto, using(crate::proofs::LocalLaws::unary_rule))]
 fn unary_rewrite(kind: Unary, child: Tree<'_>) -> Option<Decision>
     ensures { (w : ℕ) → Decides (unary_number kind ∷ unary_operand kind ∷ child.entry.words.now) result (local_rewrite w (unary kind (tree_of child.entry))) }
 {
@@ -75,6 +77,7 @@ impl NodeFold<'_> {
 }
 
 // A node with two children.
+#[tactic(auto, using(expr::specs::PartLaws::parts, crate::proofs::LocalLaws::binary_stays))]
 pub(crate) fn binary_rewrite(operands: Operands<'_>, width: Width) -> Option<Decision>
     ensures { Decides operands.entry.node.words.now result (local_rewrite width.bits (tree_of operands.entry.node)) }
 {
@@ -84,6 +87,7 @@ pub(crate) fn binary_rewrite(operands: Operands<'_>, width: Width) -> Option<Dec
 }
 
 // The root of a tree.
+#[tactic(auto, using(crate::proofs::LocalLaws::root_rule))]
 pub(crate) fn root_rewrite(tree: Tree<'_>, width: Width) -> Option<Decision>
     ensures { Decides tree.entry.words.now result (local_rewrite width.bits (tree_of tree.entry)) }
 {

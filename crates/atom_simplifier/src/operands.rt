@@ -29,6 +29,7 @@ impl<'a> Placed<'a> {
     }
 
     // Its operands, where it is a node of that kind.
+    #[tactic(auto, using(crate::proofs::DecideLaws::placed))]
     pub(crate) fn operands(self, kind: Binary) -> Option<(Placed<'a>, Placed<'a>)>
         ensures trees { placed_trees result ≡ operands_of kind (tree_of self.entry.tree) }
         ensures places { AreBelow self.entry result }
@@ -54,6 +55,7 @@ impl<'a> Operands<'a> {
     ghost use Rattle.expr.specs.Trees.{tree_of};
     ghost use Rattle.expr.specs.Parts.{part, tail};
 
+    #[tactic(auto, using(expr::specs::PartLaws::parts, expr::specs::PartLaws::left_tree))]
     pub(crate) fn lhs(self) -> Placed<'a>
         ensures tree { tree_of result.tree ≡ left_of (tree_of self.entry.node) }
         ensures words { result.tree.words.now ≡ part 2 self.entry.right self.entry.node.words.now }
@@ -66,6 +68,7 @@ impl<'a> Operands<'a> {
         Placed { tree, at: 2 }
     }
 
+    #[tactic(auto, using(expr::specs::PartLaws::parts, expr::specs::PartLaws::right_tree))]
     pub(crate) fn rhs(self) -> Placed<'a>
         ensures tree { tree_of result.tree ≡ right_of (tree_of self.entry.node) }
         ensures words { result.tree.words.now ≡ tail self.entry.right self.entry.node.words.now }

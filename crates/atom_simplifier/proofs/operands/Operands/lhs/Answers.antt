@@ -1,12 +1,6 @@
 -- `atom_simplifier::operands::Operands::lhs` meets its contract. Assumes nothing.
-use Rattle.arith.specs.NeedLaws.{basics}
-use Rattle.expr.specs.PartLaws.{parts}
+use Rattle.expr.specs.PartLaws.{part_short}
 use Rattle.atom_simplifier.proofs.operands.Operands.lhs.Goals as goal
 
-ruleset laws = (basics, parts)
-
-pub slice_bounds-result-end : goal.slice_bounds-result-end
-slice_bounds-result-end c = search laws
-
-pub returns : goal.returns
-returns c = search laws
+pub invariant_of-tree-clause-short : goal.invariant_of-tree-clause-short
+invariant_of-tree-clause-short c = part_short c.args.self.node.words.now 1024 c.args.self.node.short 2 c.args.self.right
