@@ -1,5 +1,5 @@
 -- The two public calls: what is checked, answered and written. Assumes nothing.
-use mathlib.Core.Path.{◌≡◌, sym, ap, ap₂, subst, ◌∙◌}
+use mathlib.Core.Path.{◌≡◌, sym, ap, ap₂, ◌∙◌}
 use mathlib.Core.Bool.{Bool, true, false}
 use mathlib.Core.List.{List}
 use mathlib.Core.Option.{Option, none, some}
@@ -7,141 +7,105 @@ use Prim.Native.Nat.{ℕ, ◌+◌, ◌*◌, ◌/◌, ◌≤◌, ◌<◌}
 use native.Mathlib.Omega.{arith}
 use lib.Dec.{ltb}
 use lib.ListN.{length}
-use mir.Syntax.{w64}
-use mir.Val.{Fits}
 use borrow.Author.Tests.{lt-ltb, le-ltb}
-use Rattle.std.specs.Prelude.{if◌then◌else◌}
+use Rattle.std.specs.Prelude.{Some, None, if◌then◌else◌}
+use Rattle.std.specs.Prelude as answered
+use Rattle.std.specs.declared.ops.ControlFlow.{ControlFlow}
+use Rattle.std.specs.declared.ops.ControlFlow.TheVariants.{Continue, Break}
 use Rattle.expr.specs.declared.refusal.Reason.{Reason}
 use Rattle.expr.specs.Refusals.{refusal}
-use Rattle.expr.specs.Outcome.{Outcome, refused, accepted, mapped}
-use Rattle.expr.specs.OutcomeLaws.{then_accepted, mapped_accepted, mapped_made, refused_then, refused_mapped}
+use Rattle.expr.specs.Outcome.{Outcome, refused, accepted, mapped, ◌and_then◌}
 use Rattle.expr.specs.Expr.{Expr, encode, nodes, depth}
 use Rattle.expr.specs.ExprLaws.{length_encode}
-use Rattle.expr.specs.Front.{Starts, Whole, tree_at}
-use Rattle.expr.specs.PartLaws.{exact_front, exact_tree, exact_whole}
-use Rattle.width.specs.Checked.{checked}
-use Rattle.width.specs.CheckedLaws.{Tree, checked_tree, too_little, enough, Admitted, admitted_sound}
+use Rattle.expr.specs.Parse.{parse}
+use Rattle.expr.specs.Front.{tree_at}
+use Rattle.width.specs.Checked.{width_of_call}
+use Rattle.width.specs.CheckedLaws.{width_refused, given_width, checked_parse, Admitted, admitted_sound}
 use Rattle.expr.specs.Optional.{map}
 use Rattle.rewriting.specs.AtomSimplifier as def
 use Rattle.rewriting.specs.AtomSimplifier.{local_rewrite, first_site}
 use Rattle.rewriting.specs.SiteLaws.{first_site_lem}
 use Rattle.rewriting.specs.ShapeLaws.{local_nodes}
 use Rattle.atom_simplifier.specs.declared.local.Decision.{Decision}
-use Rattle.std.specs.Prelude.{Some, None}
-use Rattle.std.specs.Prelude as answered
-use Rattle.std.specs.declared.ops.ControlFlow.{ControlFlow}
-use Rattle.std.specs.declared.ops.ControlFlow.TheVariants.{Continue, Break}
 use Rattle.atom_simplifier.specs.declared.search.Site.{Site}
 use Rattle.atom_simplifier.specs.Calls.{with_room, admitted, local_rewrite_at, first_site_at, written}
-use Rattle.atom_simplifier.specs.Promises.{Makes, Decides, Writable, Writes, IsFound, site_words, HoldsSite, Searched}
-use Rattle.atom_simplifier.proofs.DecideLaws.{within_inside, within_part, not_some, none_decided, some_decided}
+use Rattle.atom_simplifier.specs.Promises.{Makes, Decides, Writable, Writes, IsFound, Searched}
+use Rattle.atom_simplifier.proofs.DecideLaws.{none_decided, some_decided}
 use Rattle.atom_simplifier.proofs.SearchLaws.{none_is, found_is}
 
 -- ---- `admit`
 
 module _ (ws : List ℕ) (w room : ℕ) where
-  pub words_refused : (r : Reason) → refused r ≡ mapped nodes (checked w ws) → refused r ≡ mapped nodes (admitted ws w room)
+  abbrev asked : Outcome Expr → Outcome Expr
+  asked o = o and_then with_room room
+
+  pub width_no : (r : Reason) → refused r ≡ width_of_call w → refused r ≡ admitted ws w room
   unfolding admitted
-  words_refused r e = ap (mapped nodes) (refused_then nodes (with_room room) (checked w ws) e)
+  width_no r e = ap asked (width_refused w r e ws)
 
-  module _ (n : ℕ) (e : accepted n ≡ mapped nodes (checked w ws)) where
-    m : Tree w ws n
-    m = checked_tree w ws n e
-
-    pub room_refused : room < 2 * (n + 1) → refused (refusal 9) ≡ mapped nodes (admitted ws w room)
+  module _ (b : ℕ) (e : accepted b ≡ width_of_call w) where
+    pub words_no : (r : Reason) → refused r ≡ parse ws → refused r ≡ admitted ws w room
     unfolding admitted
-    room_refused f = let l : room < 2 * (nodes m.tree + 1) = omega (arith, m.count) in sym (ap (mapped nodes) (too_little _ room m.is l))
+    words_no r f = ap asked (f ∙ checked_parse w b e ws)
 
-    pub admits : 2 * (n + 1) ≤ room → accepted n ≡ mapped nodes (admitted ws w room)
+    pub room_asked : (t : Expr) → accepted t ≡ parse ws → with_room room t ≡ admitted ws w room
     unfolding admitted
-    admits f = let l : 2 * (nodes m.tree + 1) ≤ room = omega (arith, m.count) in sym (ap (mapped nodes) (enough _ room m.is l) ∙ ap accepted m.count)
+    room_asked t f = ap asked (f ∙ checked_parse w b e ws)
 
-    pub count_fits : Fits w64 (n + 1)
-    count_fits = omega (arith, m.few)
-
-    pub room_fits : Fits w64 (2 * (n + 1))
-    room_fits = omega (arith, m.few)
-
-pub ruleset admitting = (words_refused, room_refused, admits, count_fits, room_fits)
+pub ruleset admitting = (given_width, width_no, words_no)
 
 -- ---- a tree that was admitted
 
+module _ (ws : List ℕ) (w room : ℕ) (t : Expr) (e : accepted t ≡ admitted ws w room) where
+  a : Admitted (λ u. 2 * (nodes u + 1)) ws w room t
+  unfolding admitted
+  a = admitted_sound _ ws w room t (sym e)
+
+  -- the words of a replacement
+  fits : (u : Expr) → nodes u ≤ nodes t + 1 → length (encode u) ≤ room
+  fits u l = omega (arith, length_encode u, a.holds)
+
+-- ---- `local_certifiable_atom_rewrite`
+
 module _ (ws : List ℕ) (w room : ℕ) where
-  module _ (n : ℕ) (e : accepted n ≡ mapped nodes (admitted ws w room)) where
-    t : Expr
-    t = (mapped_made nodes (admitted ws w room) e).answer
-
-    was : admitted ws w room ≡ accepted t
-    unfolding t
-    was = (mapped_made nodes (admitted ws w room) e).was
-
-    a : Admitted (λ u. 2 * (nodes u + 1)) ws w room t
-    unfolding admitted
-    a = admitted_sound _ ws w room t was
-
-    tree_is : tree_at ws ≡ t
-    tree_is = exact_tree ws t a.exact
-
-    long : length ws ≡ 2 * nodes t
-    long = ap length a.exact.words ∙ length_encode t
-
-    pub call_whole : Whole ws
-    call_whole = exact_whole ws t a.exact
-
-    pub call_short : length ws ≤ 1024
-    call_short = omega (arith, long, a.few)
-
-    pub call_width : w ≤ 64
-    call_width = a.at_most
-
-    -- the words of a replacement
-    fits : (u : Expr) → nodes u ≤ nodes t + 1 → length (encode u) ≤ room
-    fits u l = omega (arith, length_encode u, a.holds)
-
-    -- ---- `local_certifiable_atom_rewrite`
-
-    local_is : local_rewrite_at ws w room ≡ accepted (local_rewrite w (tree_at ws))
+  module _ (t : Expr) (e : accepted t ≡ admitted ws w room) (b : ℕ) (f : b ≡ w) (node : List ℕ) (q : answered.Option Decision) (g : Decides node q (local_rewrite b t)) where
+    local_is : local_rewrite_at ws w room ≡ accepted (local_rewrite b t)
     unfolding local_rewrite_at
-    local_is = mapped_accepted was (local_rewrite w) ∙ ap (λ (s : Expr). accepted (local_rewrite w s)) (sym tree_is)
+    local_is = ap (mapped (local_rewrite w)) (sym e) ∙ ap (λ (n : ℕ). accepted (local_rewrite n t)) (sym f)
 
-    module _ (q : answered.Option Decision) (g : Decides ws q (local_rewrite w (tree_at ws))) where
-      module _ (f : q ≡ None) where
-        stays : local_rewrite_at ws w room ≡ accepted none
-        stays = local_is ∙ ap accepted (none_decided ws q _ g f)
+    module _ (h : q ≡ None) where
+      stays : local_rewrite_at ws w room ≡ accepted none
+      stays = local_is ∙ ap accepted (none_decided node q _ g h)
 
-        pub none_answered : accepted none ≡ mapped (map nodes) (local_rewrite_at ws w room)
-        none_answered = sym (ap (mapped (map nodes)) stays)
+      pub none_answered : accepted none ≡ mapped (map nodes) (local_rewrite_at ws w room)
+      none_answered = sym (ap (mapped (map nodes)) stays)
 
-        pub none_written : (out : List ℕ) → out ≡ written encode (local_rewrite_at ws w room) out
-        none_written out = sym (ap (λ (o : Outcome (Option Expr)). written encode o out) stays)
+      pub none_written : (out : List ℕ) → out ≡ written encode (local_rewrite_at ws w room) out
+      none_written out = sym (ap (λ (o : Outcome (Option Expr)). written encode o out) stays)
 
-      module _ (d : Decision) (f : q ≡ Some d) where
-        u : (v : Expr) × (local_rewrite w (tree_at ws) ≡ some v) × Makes ws d v
-        u = some_decided ws q _ g d f
+    module _ (d : Decision) (h : q ≡ Some d) where
+      u : (v : Expr) × (local_rewrite b t ≡ some v) × Makes node d v
+      u = some_decided node q _ g d h
 
-        pub call_writable : Writable ws d room
-        call_writable = record {
-          tree = u.0;
-          makes = u.2;
-          fits = fits u.0 (omega (arith, local_nodes w (tree_at ws) u.0 u.1, ap nodes tree_is));
-        }
+      pub call_writable : Writable node d room
+      call_writable = record { tree = u.0; makes = u.2; fits = fits ws w room t e u.0 (local_nodes b t u.0 u.1) }
 
-        module _ (before after : List ℕ) (k : ℕ) (i : Writes ws d before after k) where
-          goes : local_rewrite_at ws w room ≡ accepted (some u.0)
-          goes = local_is ∙ ap accepted u.1
+      module _ (before after : List ℕ) (k : ℕ) (i : Writes node d before after k) where
+        goes : local_rewrite_at ws w room ≡ accepted (some u.0)
+        goes = local_is ∙ ap accepted u.1
 
-          pub some_answered : accepted (some (k / 2)) ≡ mapped (map nodes) (local_rewrite_at ws w room)
-          some_answered =
-              let c : k / 2 ≡ nodes u.0 = omega (arith, i.count u.0 u.2, length_encode u.0) in
-              ap (λ (j : ℕ). accepted (some j)) c ∙ sym (ap (mapped (map nodes)) goes)
+        pub some_answered : accepted (some (k / 2)) ≡ mapped (map nodes) (local_rewrite_at ws w room)
+        some_answered =
+            let c : k / 2 ≡ nodes u.0 = omega (arith, i.count u.0 u.2, length_encode u.0) in
+            ap (λ (j : ℕ). accepted (some j)) c ∙ sym (ap (mapped (map nodes)) goes)
 
-          pub some_written : after ≡ written encode (local_rewrite_at ws w room) before
-          some_written = (i.laid u.0 u.2).is ∙ sym (ap (λ (o : Outcome (Option Expr)). written encode o before) goes)
+        pub some_written : after ≡ written encode (local_rewrite_at ws w room) before
+        some_written = (i.laid u.0 u.2).is ∙ sym (ap (λ (o : Outcome (Option Expr)). written encode o before) goes)
 
-  module _ (r : Reason) (e : refused r ≡ mapped nodes (admitted ws w room)) where
+  module _ (r : Reason) (e : refused r ≡ admitted ws w room) where
     turned : local_rewrite_at ws w room ≡ refused r
     unfolding local_rewrite_at
-    turned = sym (refused_mapped nodes (local_rewrite w) (admitted ws w room) e)
+    turned = ap (mapped (local_rewrite w)) (sym e)
 
     pub local_refused : refused r ≡ mapped (map nodes) (local_rewrite_at ws w room)
     local_refused = sym (ap (mapped (map nodes)) turned)
@@ -149,7 +113,7 @@ module _ (ws : List ℕ) (w room : ℕ) where
     pub refused_written : (out : List ℕ) → out ≡ written encode (local_rewrite_at ws w room) out
     refused_written out = sym (ap (λ (o : Outcome (Option Expr)). written encode o out) turned)
 
-pub ruleset local_call = (not_some, call_whole, call_short, call_width, none_answered, none_written, call_writable, some_answered, some_written, local_refused, refused_written)
+pub ruleset local_call = (none_answered, none_written, call_writable, some_answered, some_written, local_refused, refused_written)
 
 -- ---- `find_first_certifiable_atom_rewrite`
 
@@ -158,10 +122,10 @@ abbrev numbers : def.Site → ℕ × ℕ
 numbers s = (length s.path, nodes s.replacement)
 
 module _ (ws : List ℕ) (w bytes room : ℕ) where
-  module _ (r : Reason) (e : refused r ≡ mapped nodes (admitted ws w room)) where
+  module _ (r : Reason) (e : refused r ≡ admitted ws w room) where
     site_turned : first_site_at ws w bytes room ≡ refused r
     unfolding first_site_at
-    site_turned = sym (refused_then nodes _ (admitted ws w room) e)
+    site_turned = ap (λ (o : Outcome Expr). o and_then (λ t. if ltb bytes 63 then refused (refusal 9) else accepted (first_site w t))) (sym e)
 
     pub site_refused : refused r ≡ mapped (map numbers) (first_site_at ws w bytes room)
     site_refused = sym (ap (mapped (map numbers)) site_turned)
@@ -169,13 +133,16 @@ module _ (ws : List ℕ) (w bytes room : ℕ) where
     pub site_refused_written : (f : def.Site → List ℕ) (lent : List ℕ) → lent ≡ written f (first_site_at ws w bytes room) lent
     site_refused_written f lent = sym (ap (λ (o : Outcome (Option def.Site)). written f o lent) site_turned)
 
-  module _ (n : ℕ) (e : accepted n ≡ mapped nodes (admitted ws w room)) where
-    site_at : (b : Bool) → ltb bytes 63 ≡ b → first_site_at ws w bytes room ≡ (if b then refused (refusal 9) else accepted (first_site w (tree_at ws)))
+  -- the tree, by its own words
+  module _ (own : List ℕ) (e : accepted (tree_at own) ≡ admitted ws w room) where
+    abbrev t : Expr
+    t = tree_at own
+
+    site_at : (c : Bool) → ltb bytes 63 ≡ c → first_site_at ws w bytes room ≡ (if c then refused (refusal 9) else accepted (first_site w t))
     unfolding first_site_at
-    site_at b f =
-        then_accepted (was ws w room n e) _
-        ∙ ap (λ (c : Bool). if c then refused (refusal 9) else accepted (first_site w (t ws w room n e))) f
-        ∙ ap (λ (s : Expr). if b then refused (refusal 9) else accepted (first_site w s)) (sym (tree_is ws w room n e))
+    site_at c f =
+        ap (λ (o : Outcome Expr). o and_then (λ u. if ltb bytes 63 then refused (refusal 9) else accepted (first_site w u))) (sym e)
+        ∙ ap (λ (g : Bool). if g then refused (refusal 9) else accepted (first_site w t)) f
 
     module _ (f : bytes < 63) where
       no_path : first_site_at ws w bytes room ≡ refused (refusal 9)
@@ -187,68 +154,56 @@ module _ (ws : List ℕ) (w bytes room : ℕ) where
       pub path_refused_written : (g : def.Site → List ℕ) (lent : List ℕ) → lent ≡ written g (first_site_at ws w bytes room) lent
       path_refused_written g lent = sym (ap (λ (o : Outcome (Option def.Site)). written g o lent) no_path)
 
-    pub call_starts : Starts ws
-    call_starts = record { tree = tree_at ws; front = exact_front ws (tree_at ws) (call_whole ws w room n e) }
+    -- the walk is over them
+    module _ (vs : List ℕ) (v : vs ≡ own) where
+      walked : tree_at vs ≡ t
+      walked = ap tree_at v
 
-    pub call_depth : (path : List ℕ) → 63 ≤ length path → depth (tree_at ws) ≤ length path + 1
-    call_depth path l = omega (arith, ap depth (tree_is ws w room n e), (a ws w room n e).levels)
+      pub call_depth : (path : List ℕ) → 63 ≤ length path → depth (tree_at vs) ≤ length path + 1
+      call_depth path l = omega (arith, ap depth walked, (a ws w room t e).levels)
 
-    module _ (l : 63 ≤ bytes) (path after : List ℕ) (k : ℕ) (y : ControlFlow Site ℕ) (q : Searched (first_site w (tree_at ws)) ws k path after y) where
-      site_is : first_site_at ws w bytes room ≡ accepted (first_site w (tree_at ws))
-      site_is = site_at false (le-ltb bytes 63 l)
+      module _ (b : ℕ) (i : b ≡ w) (l : 63 ≤ bytes) (path after : List ℕ) (k : ℕ) (y : ControlFlow Site ℕ) (q : Searched (first_site b (tree_at vs)) k path after y) where
+        site_is : first_site_at ws w bytes room ≡ accepted (first_site b (tree_at vs))
+        site_is = site_at false (le-ltb bytes 63 l) ∙ ap₂ (λ (n : ℕ) (u : Expr). accepted (first_site n u)) (sym i) (sym walked)
 
-      module _ (m : ℕ) (f : y ≡ Continue m) where
-        no_site : first_site_at ws w bytes room ≡ accepted none
-        no_site = site_is ∙ ap accepted (none_is _ ws k path after y q m f).0
+        module _ (m : ℕ) (f : y ≡ Continue m) where
+          no_site : first_site_at ws w bytes room ≡ accepted none
+          no_site = site_is ∙ ap accepted (none_is _ k path after y q m f).0
 
-        pub no_site_answered : accepted none ≡ mapped (map numbers) (first_site_at ws w bytes room)
-        no_site_answered = sym (ap (mapped (map numbers)) no_site)
+          pub no_site_answered : accepted none ≡ mapped (map numbers) (first_site_at ws w bytes room)
+          no_site_answered = sym (ap (mapped (map numbers)) no_site)
 
-        pub no_path_written : after ≡ written (λ s. s.path) (first_site_at ws w bytes room) path
-        no_path_written = (none_is _ ws k path after y q m f).2 ∙ sym (ap (λ (o : Outcome (Option def.Site)). written (λ s. s.path) o path) no_site)
+          pub no_path_written : after ≡ written (λ s. s.path) (first_site_at ws w bytes room) path
+          no_path_written = (none_is _ k path after y q m f).2 ∙ sym (ap (λ (o : Outcome (Option def.Site)). written (λ s. s.path) o path) no_site)
 
-        pub no_words_written : (out : List ℕ) → out ≡ written (λ s. encode s.replacement) (first_site_at ws w bytes room) out
-        no_words_written out = sym (ap (λ (o : Outcome (Option def.Site)). written (λ s. encode s.replacement) o out) no_site)
+          pub no_words_written : (out : List ℕ) → out ≡ written (λ s. encode s.replacement) (first_site_at ws w bytes room) out
+          no_words_written out = sym (ap (λ (o : Outcome (Option def.Site)). written (λ s. encode s.replacement) o out) no_site)
 
-      module _ (s : Site) (f : y ≡ Break s) where
-        found : (site : def.Site) × (first_site w (tree_at ws) ≡ some site) × IsFound site ws path after s
-        found = found_is _ ws k path after y q s f
+        module _ (s : Site) (f : y ≡ Break s) where
+          found : (site : def.Site) × (first_site b (tree_at vs) ≡ some site) × IsFound site path after s
+          found = found_is _ k path after y q s f
 
-        i : IsFound found.0 ws path after s
-        i = found.2
-
-        found_inside : s.at + s.words ≤ length ws
-        found_inside = omega (arith, within_inside ws i.node s.at i.within, i.words_is)
-
-        node_is : site_words ws s ≡ i.node
-        node_is = within_part ws i.node s.at i.within s.words i.words_is
-
-        makes : Makes (site_words ws s) s.local found.0.replacement
-        makes = subst (λ (v : List ℕ). Makes v s.local found.0.replacement) (sym node_is) i.makes
-
-        pub holds_site : HoldsSite ws s room
-        holds_site = record {
-          inside = found_inside;
-          writable = record {
+          pub site_writable : Writable s.node.words.now s.local room
+          site_writable = record {
             tree = found.0.replacement;
-            makes = makes;
-            fits = fits ws w room n e found.0.replacement (omega (arith, (first_site_lem w (tree_at ws) found.0 found.1).few, ap nodes (tree_is ws w room n e)));
-          };
-        }
+            makes = found.2.makes;
+            fits = fits ws w room t e found.0.replacement (omega (arith, (first_site_lem b (tree_at vs) found.0 found.1).few, ap nodes walked));
+          }
 
-        the_site : first_site_at ws w bytes room ≡ accepted (some found.0)
-        the_site = site_is ∙ ap accepted found.1
+          the_site : first_site_at ws w bytes room ≡ accepted (some found.0)
+          the_site = site_is ∙ ap accepted found.1
 
-        pub site_path_written : after ≡ written (λ z. z.path) (first_site_at ws w bytes room) path
-        site_path_written = i.bytes.is ∙ sym (ap (λ (o : Outcome (Option def.Site)). written (λ z. z.path) o path) the_site)
+          pub site_path_written : after ≡ written (λ z. z.path) (first_site_at ws w bytes room) path
+          site_path_written = found.2.bytes.is ∙ sym (ap (λ (o : Outcome (Option def.Site)). written (λ z. z.path) o path) the_site)
 
-        module _ (out out' : List ℕ) (j : ℕ) (d : Writes (site_words ws s) s.local out out' j) where
-          pub site_answered : accepted (some (s.levels, j / 2)) ≡ mapped (map numbers) (first_site_at ws w bytes room)
-          site_answered =
-              let c : j / 2 ≡ nodes found.0.replacement = omega (arith, d.count found.0.replacement makes, length_encode found.0.replacement) in
-              ap₂ (λ (u v : ℕ). accepted (some (u, v))) i.levels_is c ∙ sym (ap (mapped (map numbers)) the_site)
+          module _ (out out' : List ℕ) (n : ℕ) (d : Writes s.node.words.now s.local out out' n) where
+            pub site_answered : accepted (some (s.levels, n / 2)) ≡ mapped (map numbers) (first_site_at ws w bytes room)
+            site_answered =
+                let c : n / 2 ≡ nodes found.0.replacement = omega (arith, d.count found.0.replacement found.2.makes, length_encode found.0.replacement) in
+                ap₂ (λ (x z : ℕ). accepted (some (x, z))) found.2.levels_is c ∙ sym (ap (mapped (map numbers)) the_site)
 
-          pub site_words_written : out' ≡ written (λ z. encode z.replacement) (first_site_at ws w bytes room) out
-          site_words_written = (d.laid found.0.replacement makes).is ∙ sym (ap (λ (o : Outcome (Option def.Site)). written (λ z. encode z.replacement) o out) the_site)
+            pub site_words_written : out' ≡ written (λ z. encode z.replacement) (first_site_at ws w bytes room) out
+            site_words_written =
+                (d.laid found.0.replacement found.2.makes).is ∙ sym (ap (λ (o : Outcome (Option def.Site)). written (λ z. encode z.replacement) o out) the_site)
 
-pub ruleset site_call = (call_short, call_width, site_refused, site_refused_written, path_refused, path_refused_written, call_starts, call_depth, no_site_answered, no_path_written, no_words_written, holds_site, site_path_written, site_answered, site_words_written)
+pub ruleset site_call = (site_refused, site_refused_written, path_refused, path_refused_written, call_depth, no_site_answered, no_path_written, no_words_written, site_writable, site_path_written, site_answered, site_words_written)

@@ -1,15 +1,16 @@
 -- A part of a node's words that is moved to the node's front. Assumes nothing.
-use mathlib.Core.Path.{◌≡◌, refl, ap, ap₂, subst, ◌∙◌}
+use mathlib.Core.Path.{◌≡◌, refl, sym, ap, ap₂, subst, ◌∙◌}
 use mathlib.Core.List.{List, [], ◌∷◌, ◌++◌}
 use Prim.Native.Nat.{ℕ, ◌+◌, ◌-◌, ◌≤◌}
 use native.Mathlib.Omega.{arith}
-use lib.ListN.{length, take, drop, get_or, set, length-append, length-set}
+use lib.ListN.{length, take, drop, get_or, set}
 use lib.Seq.{drop-drop}
 use borrow.Rule.Slice.PartMut.{put_mid}
 use Rattle.expr.specs.Parts.{tail, part, Laid}
-use Rattle.expr.specs.TailLaws.{tail_drop, length_tail}
-use Rattle.expr.specs.LentLaws.{laid_length, laid_on}
+use Rattle.expr.specs.TailLaws.{tail_drop}
 use Rattle.expr.specs.PartLaws.{part_length}
+use Rattle.atom_simplifier.specs.Promises.{copied}
+use Rattle.atom_simplifier.proofs.WriteLaws.{join_laid}
 
 -- ---- `join_down`
 
@@ -31,37 +32,10 @@ module _ (at len c : ℕ) (before : List ℕ) (g : 2 ≤ at) (h : at + len ≤ l
       ap₂ (λ (i : ℕ) (v : List ℕ). take i (drop (at - 2) v)) e (tail_drop 2 (set before 1 0) ∙ ap (drop 2) zeroed.is)
       ∙ ap (take (at + len - at)) (drop-drop (at - 2) 2 before ∙ ap (λ (i : ℕ). drop i before) f)
 
-  pub zeroed_long : 2 ≤ length (set before 1 0)
-  zeroed_long = omega (arith, length-set before 1 0)
-
-  pub join_inside : at - 2 + len ≤ length (tail 2 (set before 1 0))
-  join_inside = omega (arith, length_tail 2 (set before 1 0), length-set before 1 0)
-
-  module _ (second : List ℕ) (l : Laid (tail 2 (set before 1 0)) second (part (at - 2) (at - 2 + len) (tail 2 (set before 1 0)))) where
-    abbrev moved : List ℕ
-    moved = put_mid 2 (length (set before 1 0) - 2) (set before 1 0) second
-
-    both_laid : Laid before moved ((get_or before 0 0 ∷ 0 ∷ []) ++ part at (at + len) before)
-    both_laid = laid_on before (set before 1 0) (get_or before 0 0 ∷ 0 ∷ []) zeroed 2 refl second _ (subst (Laid (tail 2 (set before 1 0)) second) same_part_lem l)
-
-    pub join_moved : (third : List ℕ) → Laid (tail (2 + len) moved) third (0 ∷ c ∷ [])
-        → Laid before (put_mid (2 + len) (length moved - (2 + len)) moved third) (((get_or before 0 0 ∷ 0 ∷ []) ++ part at (at + len) before) ++ (0 ∷ c ∷ []))
-    join_moved third m =
-        let e : 2 + len ≡ length ((get_or before 0 0 ∷ 0 ∷ []) ++ part at (at + len) before) = omega (arith, part_length before at len h) in
-        laid_on before moved _ both_laid (2 + len) e third (0 ∷ c ∷ []) m
-
-    pub join_long : (third : List ℕ) → 4 + len ≤ length before → Laid (tail (2 + len) moved) third (0 ∷ c ∷ []) → length (put_mid (2 + len) (length moved - (2 + len)) moved third) ≡ length before
-    join_long third f m =
-        laid_length before _ _ (join_moved third m)
-        (omega (arith, length-append ((get_or before 0 0 ∷ 0 ∷ []) ++ part at (at + len) before) (0 ∷ c ∷ []), part_length before at len h))
-
-    pub moved_long : 4 + len ≤ length before → length moved ≡ length before
-    moved_long f = laid_length before moved _ both_laid (omega (arith, part_length before at len h))
-
-    pub last_inside : 4 + len ≤ length before → 2 ≤ length (tail (2 + len) moved)
-    last_inside f = omega (arith, length_tail (2 + len) moved, moved_long f)
-
-    pub last_place : 4 + len ≤ length before → 2 + len ≤ length moved
-    last_place f = omega (arith, moved_long f)
-
-pub ruleset joining = (zeroed_long, join_inside, join_moved, join_long, moved_long, last_inside, last_place)
+  pub join_moved : (second third : List ℕ) → Laid (tail 2 (set before 1 0)) second (part (at - 2) (at - 2 + len) (tail 2 (set before 1 0)))
+      → let moved = put_mid 2 (length (set before 1 0) - 2) (set before 1 0) second in
+      Laid (tail (2 + len) moved) third (0 ∷ c ∷ []) → Laid before (put_mid (2 + len) (length moved - (2 + len)) moved third) (((get_or before 0 0 ∷ 0 ∷ []) ++ part at (at + len) before) ++ (0 ∷ c ∷ []))
+  unfolding copied
+  join_moved second third l m =
+      join_laid 0 (part at (at + len) before) before (set before 1 0) (get_or before 0 0) c len (sym (part_length before at len h)) zeroed second third
+      (subst (Laid (tail 2 (set before 1 0)) second) same_part_lem l) m

@@ -1,7 +1,7 @@
 -- What a decision makes of a node is put in the place of the node. Assumes nothing.
 use mathlib.Core.Path.{◌≡◌, sym, ap, ap₂, subst, ◌∙◌}
 use mathlib.Core.List.{List, [], ◌∷◌, ◌++◌, append-nil}
-use Prim.Native.Nat.{ℕ, zero, suc, ◌+◌, ◌*◌, ◌-◌, ◌^◌, ◌≤◌, ◌<◌}
+use Prim.Native.Nat.{ℕ, zero, suc, ◌+◌, ◌*◌, ◌-◌, ◌≤◌}
 use native.Mathlib.Omega.{arith}
 use lib.ListN.{length, take, drop, get_or, length-drop, take-append-drop, drop_of_length-le}
 use lib.Seq.{length-take-le, get_or-take, take-append-le, drop-append-le}
@@ -54,9 +54,6 @@ module _ (ws : List ℕ) (len : ℕ) (d : Decision) (r : Replaceable ws len d) w
     pub constant_replaceable : 2 ≤ length ws
     constant_replaceable = omega (arith, in_node.constant_room node d len r.writable c e, r.inside)
 
-    pub constant_replaced : (after : List ℕ) → Laid ws after (0 ∷ c ∷ []) → Writes node d ws after 2
-    constant_replaced after l = constant_written node d ws after c e l
-
   -- ---- the node's kind over a part and a constant
 
   module _ (at n c : ℕ) (e : d ≡ Join at n c) where
@@ -68,10 +65,10 @@ module _ (ws : List ℕ) (len : ℕ) (d : Decision) (r : Replaceable ws len d) w
     join_short = omega (arith, in_node.join_inside node d len r.writable at n c e, node_length)
 
     pub join_replaceable : 4 + n ≤ length ws
-    join_replaceable = omega (arith, in_node.join_room node d len r.writable at n c e, r.inside)
+    join_replaceable = omega (arith, in_node.join_least node d len r.writable at n c e, r.inside)
 
-    pub join_fits : length ws < 2 ^ 64 → Fits w64 (4 + n)
-    join_fits l = omega (arith, join_replaceable)
+    pub count_fits : Fits w64 len → Fits w64 (4 + n)
+    count_fits l = omega (arith, in_node.join_least node d len r.writable at n c e)
 
     pub join_end : at + n ≤ length ws
     join_end = omega (arith, join_short, r.inside)
@@ -87,7 +84,7 @@ module _ (ws : List ℕ) (len : ℕ) (d : Decision) (r : Replaceable ws len d) w
             let f : i.front ≡ [] = drop_of_length-le i.front none in
             let b = prefix_free (tree_at node) joined.operand [] i.back
             (append-nil (encode (tree_at node)) ∙ sym r.whole.words ∙ i.words ∙ ap (λ (l : List ℕ). l ++ (encode joined.operand ++ i.back)) f) in
-            omega (arith, in_node.join_room node d len r.writable at n c e, node_length, ap length r.whole.words, ap (λ (t : Expr). length (encode t)) b.0, joined.holds.words)
+            omega (arith, in_node.join_least node d len r.writable at n c e, node_length, ap length r.whole.words, ap (λ (t : Expr). length (encode t)) b.0, joined.holds.words)
 
         go : (half : ℕ) → at ≡ 2 * half → 2 ≤ at
         go zero f = absurd (first f)
@@ -105,4 +102,4 @@ module _ (ws : List ℕ) (len : ℕ) (d : Decision) (r : Replaceable ws len d) w
   pub none_replaced : (right : ℕ) → d ≡ DeMorgan right → (before after : List ℕ) (n : ℕ) → Writes node d before after n
   none_replaced right e before after n = absurd (omega (arith, in_node.turns_room node d len r.writable right e, node_length))
 
-pub ruleset in_place = (part_replaceable, part_replaced, constant_replaceable, constant_replaced, join_replaceable, join_fits, join_end, join_place, join_replaced, none_replaced)
+pub ruleset in_place = (part_replaceable, part_replaced, constant_replaceable, constant_written, join_replaceable, count_fits, join_end, join_place, join_replaced, none_replaced)

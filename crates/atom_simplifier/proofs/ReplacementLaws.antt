@@ -62,17 +62,17 @@ module _ (ws : List ℕ) (d : Decision) (room : ℕ) (w : Writable ws d room) wh
     pub join_fits : length ws ≤ 1024 → Fits w64 (at + len)
     join_fits h = omega (arith, join_inside)
 
-    join_length : length (encode w.tree) ≡ 4 + len
+    pub join_scaled : length ws ≤ 1024 → Fits w64 (at * 8)
+    join_scaled h = omega (arith, join_inside)
+
+    pub join_least : 4 + len ≤ room
     unfolding encode
-    join_length =
+    join_least =
         let j = join_made in
-        ap (λ (u : Expr). length (encode u)) j.is ∙ omega (arith, length-append (encode j.operand) (encode (constant c)), j.holds.words)
+        omega (arith, w.fits, ap (λ (u : Expr). length (encode u)) j.is, length-append (encode j.operand) (encode (constant c)), j.holds.words)
 
-    pub join_room : 4 + (at + len) ≤ room + at
-    join_room = omega (arith, join_length, w.fits)
-
-    pub join_count_fits : length ws ≤ 1024 → Fits w64 (4 + len)
-    join_count_fits h = omega (arith, join_inside)
+    pub join_room : 4 + length (part at (at + len) ws) ≤ room
+    join_room = omega (arith, join_least, ap length (held ws at len join_made.operand join_made.holds), join_made.holds.words)
 
     pub join_first : 0 < length ws
     join_first = omega (arith, join_inside, join_made.holds.words, length_encode join_made.operand, nodes_pos join_made.operand)
@@ -160,4 +160,4 @@ module _ (ws : List ℕ) (d : Decision) (before after : List ℕ) where
             ∙ ap₂ (λ (v z : List ℕ). ((binary_number t.other ∷ 0 ∷ []) ++ ((7 ∷ 0 ∷ []) ++ v)) ++ ((7 ∷ 0 ∷ []) ++ z)) x y
             ∙ ap encode (sym t.is)
 
-pub ruleset replacing = (part_inside, part_room, part_fits, part_scaled, constant_room, join_inside, join_fits, join_room, join_count_fits, join_first, right_least, right_most, turns_room, constant_written, part_written, join_written, turned_written)
+pub ruleset replacing = (part_inside, part_room, part_fits, part_scaled, constant_room, join_inside, join_fits, join_scaled, join_room, join_first, right_least, right_most, turns_room, constant_written, part_written, join_written, turned_written)

@@ -1,17 +1,14 @@
 -- Writing words at the front of lent ones. Assumes nothing.
-use mathlib.Core.Path.{◌≡◌, refl, sym, ap, subst, ◌∙◌}
-use mathlib.Core.Bool.{Bool}
+use mathlib.Core.Path.{◌≡◌, refl, ap, subst, ◌∙◌}
 use mathlib.Core.List.{List, [], ◌∷◌, ◌++◌}
 use Prim.Native.Nat.{ℕ, ◌+◌, ◌-◌, ◌≤◌}
 use native.Mathlib.Omega.{arith}
 use lib.ListN.{length, take, drop, length-drop}
 use lib.Seq.{take_all, length-take-le}
-use borrow.Author.Tests.{ne_eqb}
 use borrow.Rule.Slice.PartMut.{put_mid}
-use Rattle.std.specs.Prelude.{if◌then◌else◌}
 use Rattle.expr.specs.Parts.{tail, part, Laid}
 use Rattle.expr.specs.Lent.{over}
-use Rattle.expr.specs.LentLaws.{filled, filled_next, node_put, laid_length, laid_on}
+use Rattle.expr.specs.LentLaws.{laid_on}
 use Rattle.atom_simplifier.specs.Promises.{copied, dual_number}
 
 -- ---- `copy`
@@ -26,18 +23,17 @@ copied_length : (w a e : ℕ) (ws : List ℕ) → a ≤ e → e ≤ length ws �
 unfolding copied
 copied_length w a e ws h l = length-take-le (e - a) (drop a ws) (omega (arith, length-drop a ws))
 
-module _ (w : ℕ) (node before first : List ℕ) where
-  pub join_laid : (k c at end : ℕ) → at ≤ end → end ≤ length node → Laid before first (k ∷ 0 ∷ [])
-      → (second third : List ℕ) → Laid (tail 2 first) second (copied w (part at end node))
+module _ (w : ℕ) (part before first : List ℕ) where
+  pub join_laid : (k c len : ℕ) → len ≡ length part → Laid before first (k ∷ 0 ∷ []) → (second third : List ℕ) → Laid (tail 2 first) second (copied w part)
       → let v = put_mid 2 (length first - 2) first second in
-      let last = 2 + (end - at) in
-      Laid (tail last v) third (0 ∷ c ∷ [])
-      → Laid before (put_mid last (length v - last) v third) (((k ∷ 0 ∷ []) ++ copied w (part at end node)) ++ (0 ∷ c ∷ []))
-  join_laid k c at end h l p second third q r =
-      let xs = copied w (part at end node) in
-      let e : 2 + (end - at) ≡ length ((k ∷ 0 ∷ []) ++ xs) = omega (arith, copied_length w at end node h l) in
-      laid_on before _ ((k ∷ 0 ∷ []) ++ xs) (laid_on before first (k ∷ 0 ∷ []) p 2 refl second xs q) (2 + (end - at)) e third (0 ∷ c ∷ []) r
+      let last = 2 + len in
+      Laid (tail last v) third (0 ∷ c ∷ []) → Laid before (put_mid last (length v - last) v third) (((k ∷ 0 ∷ []) ++ copied w part) ++ (0 ∷ c ∷ []))
+  unfolding copied
+  join_laid k c len e p second third q r =
+      let f : 2 + len ≡ length ((k ∷ 0 ∷ []) ++ part) = omega arith in
+      laid_on before _ ((k ∷ 0 ∷ []) ++ part) (laid_on before first (k ∷ 0 ∷ []) p 2 refl second part q) (2 + len) f third (0 ∷ c ∷ []) r
 
+module _ (w : ℕ) (node before first : List ℕ) where
   pub de_morgan_laid : (k d right end : ℕ) → d ≡ dual_number k → 4 ≤ right → right ≤ length node → Laid before first (d ∷ 0 ∷ [])
       → (second third : List ℕ) → Laid (tail 2 first) second ((7 ∷ 0 ∷ []) ++ copied w (part 4 right node))
       → let v = put_mid 2 (length first - 2) first second in
@@ -48,13 +44,3 @@ module _ (w : ℕ) (node before first : List ℕ) where
       let e : right ≡ length ((d ∷ 0 ∷ []) ++ xs) = omega (arith, copied_length w 4 right node h l) in
       subst (λ (j : ℕ). Laid before (put_mid right (length (put_mid 2 (length first - 2) first second) - right) (put_mid 2 (length first - 2) first second) third) (((j ∷ 0 ∷ []) ++ xs) ++ ((7 ∷ 0 ∷ []) ++ copied w (part right end node)))) i
       (laid_on before _ ((d ∷ 0 ∷ []) ++ xs) (laid_on before first (d ∷ 0 ∷ []) p 2 refl second xs q) right e third _ r)
-
--- ---- `dual`
-
-pub dual_and : (k : ℕ) → k ≡ 4 → 5 ≡ dual_number k
-dual_and k e = sym (ap dual_number e)
-
-pub dual_or : (k : ℕ) → (k ≡ 4 → ⊥) → 4 ≡ dual_number k
-dual_or k f = sym (ap (λ (b : Bool). if b then 5 else 4) (ne_eqb k 4 f))
-
-pub ruleset writing = (node_put, laid_length, laid_on, join_laid, de_morgan_laid, dual_and, dual_or)

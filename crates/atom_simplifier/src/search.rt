@@ -5,7 +5,7 @@ ghost use Rattle.expr.specs.Outcome.{accepted};
 ghost use Rattle.expr.specs.Expr.{encode, depth};
 ghost use Rattle.expr.specs.Parse.{arity_of};
 ghost use Rattle.expr.specs.Parts.{tail};
-ghost use Rattle.expr.specs.Front.{Starts, tree_at};
+ghost use Rattle.expr.specs.Front.{Leads, tree_at};
 ghost use Rattle.expr.specs.Optional.{map, ◌or_else◌};
 ghost use Rattle.rewriting.specs.AtomSimplifier.{here, below, local_rewrite, first_site};
 ghost use Rattle.atom_simplifier.specs.Promises.{at_root, Searched};
@@ -49,7 +49,7 @@ fn find_in_child<'a>(
     width: Width,
     path: &mut [u8],
 ) -> ControlFlow<Site<'a>, usize>
-    requires { (1 ≤ from) × (from ≤ length walk.words.now) × Starts (tail from walk.words.now) × (depth (tree_at (tail from walk.words.now)) ≤ length path.old) }
+    requires { (1 ≤ from) × (from ≤ length walk.words.now) × Leads (tail from walk.words.now) × (depth (tree_at (tail from walk.words.now)) ≤ length path.old) }
     ensures { Searched (map (below byte) (first_site width.bits (tree_at (tail from walk.entry.words.now)))) (length (encode (tree_at (tail from walk.entry.words.now)))) path.old path.new result }
 {
     let ws = walk.words;

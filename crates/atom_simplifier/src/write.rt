@@ -9,6 +9,7 @@ use expr::tree::Tree;
 use width::Width;
 
 // The only place where words are copied: as they stand, whatever the width.
+#[tactic(auto, using(crate::proofs::WriteLaws::part_copied))]
 fn copy(part: &[u64], width: Width, out: &mut [u64])
     requires { length part.now ≤ length out.old }
     ensures { Laid out.old out.new (copied width.bits part.now) }
@@ -55,6 +56,7 @@ fn write_not(part: &[u64], width: Width, out: &mut [u64])
 }
 
 // The other kind over a Not of each operand; the right operand is at `right`.
+#[tactic(auto, using(crate::proofs::WriteLaws::de_morgan_laid))]
 fn write_de_morgan(node: &[u64], right: usize, width: Width, out: &mut [u64])
     requires { (4 ≤ right) × (right ≤ length node.now) × (2 + length node.now ≤ length out.old) }
     ensures { Laid out.old out.new (((dual_number (get_or node.now 2 0) ∷ 0 ∷ []) ++ ((7 ∷ 0 ∷ []) ++ copied width.bits (part 4 right node.now))) ++ ((7 ∷ 0 ∷ []) ++ copied width.bits (part right (length node.now) node.now))) }
@@ -106,6 +108,7 @@ pub(crate) fn move_down(ws: &mut [u64], by: usize, len: usize)
 }
 
 // The node's kind over the part of `len` words at `at` and the constant c, in the place of the node.
+#[tactic(auto, using(crate::proofs::InPlaceLaws::join_moved))]
 fn join_down(node: &mut [u64], at: usize, len: usize, c: u64)
     requires { (2 ≤ at) × (at + len ≤ length node.old) × (4 + len ≤ length node.old) }
     ensures { Laid node.old node.new (((get_or node.old 0 0 ∷ 0 ∷ []) ++ part at (at + len) node.old) ++ (0 ∷ c ∷ [])) }

@@ -5,17 +5,14 @@ use Rattle.atom_simplifier.proofs.local_certifiable_atom_rewrite.Goals as goal
 
 ruleset laws = (basics, local_call)
 
-pub returns-in_err-admit : goal.returns-in_err-admit
-returns-in_err-admit c = search laws
-
-pub root_rewrite-requires : goal.root_rewrite-requires
-root_rewrite-requires c = search laws
+pub returns-in_err-tree : goal.returns-in_err-tree
+returns-in_err-tree c = search (laws, c.in_err-tree.ensures.tree)
 
 pub returns-in_default : goal.returns-in_default
-returns-in_default c = search laws
+returns-in_default c = search (laws, c.in_ok-tree.ensures.tree, c.in_ok-tree.ensures.width)
 
 pub write_replacement-n-requires : goal.write_replacement-n-requires
-write_replacement-n-requires c = search laws
+write_replacement-n-requires c = search (laws, c.in_ok-tree.ensures.tree, c.in_ok-tree.ensures.width)
 
 pub returns : goal.returns
-returns c = search laws
+returns c = search (laws, c.in_ok-tree.ensures.tree, c.in_ok-tree.ensures.width)

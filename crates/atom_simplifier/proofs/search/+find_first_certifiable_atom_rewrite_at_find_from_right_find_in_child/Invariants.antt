@@ -5,10 +5,10 @@ use lib.ListN.{length}
 use Rattle.atom_simplifier.proofs.search.+find_first_certifiable_atom_rewrite_at_find_from_right_find_in_child.Given as goal
 
 abbrev pub decreases-find_first_certifiable_atom_rewrite_at : goal.decreases-find_first_certifiable_atom_rewrite_at
-decreases-find_first_certifiable_atom_rewrite_at l = 3 * length l.ws.now + 2
+decreases-find_first_certifiable_atom_rewrite_at l = 3 * length l.walk.words.now + 2
 
 abbrev pub decreases-find_from_right : goal.decreases-find_from_right
-decreases-find_from_right l = 3 * length l.ws.now + 1
+decreases-find_from_right l = 3 * length l.walk.words.now + 1
 
 abbrev pub decreases-find_in_child : goal.decreases-find_in_child
-decreases-find_in_child l = 3 * length l.ws.now
+decreases-find_in_child l = 3 * length l.walk.words.now

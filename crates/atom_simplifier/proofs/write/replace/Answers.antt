@@ -1,10 +1,9 @@
 -- `atom_simplifier::write::replace` meets its contract. Assumes nothing.
 use Rattle.arith.specs.NeedLaws.{basics}
 use Rattle.atom_simplifier.proofs.ReplaceLaws.{in_place}
-use Rattle.expr.specs.LentLaws.{laid_length}
 use Rattle.atom_simplifier.proofs.write.replace.Goals as goal
 
-ruleset laws = (basics, in_place, laid_length)
+ruleset laws = (basics, in_place)
 
 pub move_down-requires : goal.move_down-requires
 move_down-requires c = search laws

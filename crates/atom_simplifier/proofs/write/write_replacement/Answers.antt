@@ -8,8 +8,8 @@ ruleset laws = (basics, replacing)
 pub overflow_add-at : goal.overflow_add-at
 overflow_add-at c = search laws
 
-pub offset_bounds-node-at : goal.offset_bounds-node-at
-offset_bounds-node-at c = search laws
+pub offset_bounds-words-at : goal.offset_bounds-words-at
+offset_bounds-words-at c = search laws
 
 pub slice_bounds-copy-end : goal.slice_bounds-copy-end
 slice_bounds-copy-end c = search laws
@@ -20,14 +20,20 @@ copy-requires c = search laws
 pub put_node-requires : goal.put_node-requires
 put_node-requires c = search laws
 
+pub bounds-words-0 : goal.bounds-words-0
+bounds-words-0 c = search laws
+
 pub overflow_add-at-in-Join : goal.overflow_add-at-in-Join
 overflow_add-at-in-Join c = search laws
 
+pub offset_bounds-words-at-in-Join : goal.offset_bounds-words-at-in-Join
+offset_bounds-words-at-in-Join c = search laws
+
+pub slice_bounds-write_join-end : goal.slice_bounds-write_join-end
+slice_bounds-write_join-end c = search laws
+
 pub write_join-requires : goal.write_join-requires
 write_join-requires c = search laws
-
-pub overflow_add-result : goal.overflow_add-result
-overflow_add-result c = search laws
 
 pub write_de_morgan-requires : goal.write_de_morgan-requires
 write_de_morgan-requires c = search laws
