@@ -5,7 +5,7 @@ use Prim.Native.Nat.{ℕ, ◌+◌, ◌*◌, ◌-◌, ◌≤◌, ◌<◌}
 use native.Mathlib.Omega.{arith}
 use lib.Dec.{T}
 use lib.ListN.{length, take, drop, get_or, length-append}
-use lib.Seq.{take_at, drop-drop}
+use lib.Seq.{take_at}
 use mir.Facts.{yes_and}
 use mir.Syntax.{w64}
 use mir.Val.{Fits}
@@ -19,17 +19,18 @@ use Rattle.expr.specs.ExprLaws.{nodes_pos, length_encode}
 use Rattle.expr.specs.Parse.{arity_of, operand_ok, operands_ok}
 use Rattle.expr.specs.Answers.{children_of}
 use Rattle.expr.specs.Parts.{tail, Laid}
-use Rattle.expr.specs.TailLaws.{tail_drop, length_tail}
-use Rattle.expr.specs.Front.{Front, Starts, tree_at, left_of}
-use Rattle.expr.specs.FrontLaws.{arity_one, arity_two, UnaryNode, BinaryNode, leaf_node, unary_node, binary_node, has_node}
-use Rattle.expr.specs.PartLaws.{tail_short, front_tree, starts_front, starts_lead, lead_starts}
+use Rattle.expr.specs.TailLaws.{length_tail}
+use Rattle.expr.specs.Front.{Leads, tree_at, left_of}
+use Rattle.expr.specs.FrontLaws.{UnaryNode, leaf_node, arity_one, arity_two}
+use Rattle.expr.specs.PartLaws.{tail_short}
 use Rattle.expr.specs.LentLaws.{put_tail, laid_length}
 use Rattle.rewriting.specs.AtomSimplifier.{first_rewrite}
 use Rattle.rewriting.specs.EndLaws.{Ends, done, no_site, leaf_still, ends_left, ends_right, ends_unary}
 use Rattle.rewriting.specs.NodesLaws.{ends_nodes}
 use Rattle.rewriting.specs.ChainLaws.{count_small}
 use Rattle.atom_simplifier.specs.Promises.{loaded, Ready, EndsAt, Loaded, LeftDone, HasLeft, Comes, IsBuilt, RightBuilt}
-use Rattle.atom_simplifier.proofs.SettleLaws.{front_inside, one_tree, one_ready, one_arity, two_tree, two_ready, two_arity, two_right}
+use Rattle.atom_simplifier.proofs.WalkLaws.{front, front_inside, node_inside, single, node_is, child_leads, pair, left_leads, both_are, right_leads, two_length}
+use Rattle.atom_simplifier.proofs.SettleLaws.{one_tree, one_ready, one_arity, two_tree, two_ready, two_arity, two_right}
 
 -- ---- the node's own words
 
@@ -55,9 +56,9 @@ module _ (w : ℕ) (ws work : List ℕ) (l : Loaded w ws work) where
 
 -- ---- the trees of the input
 
-module _ (ws : List ℕ) (s : Starts ws) where
+module _ (ws : List ℕ) (x : Leads ws) where
   tree_room : length (encode (tree_at ws)) ≤ length ws
-  tree_room = front_inside ws s (length (encode (tree_at ws))) refl
+  tree_room = front_inside ws x (length (encode (tree_at ws))) refl
 
   small : length ws ≤ 1024 → nodes (tree_at ws) ≤ 1024
   small h = omega (arith, tree_room, length_encode (tree_at ws))
@@ -71,11 +72,11 @@ ends_short w ws before after read len count i = omega (arith, i.comes.len_is, i.
 
 -- ---- a leaf
 
-module _ (w : ℕ) (ws : List ℕ) (s : Starts ws) (v : Arity) (h : accepted (children_of v) ≡ arity_of (get_or ws 0 0)) where
+module _ (w : ℕ) (ws : List ℕ) (x : Leads ws) (v : Arity) (h : accepted (children_of v) ≡ arity_of (get_or ws 0 0)) where
   pub leaf_built : v ≡ arity.Zero → (before first : List ℕ) → Laid before first (loaded w (get_or ws 0 0) (get_or ws 1 0)) → length (encode (tree_at ws)) ≤ length before → IsBuilt w ws before first 2 2 0
   unfolding encode
   leaf_built e before first l r =
-      let f = starts_front ws s in
+      let f = front ws x in
       let n = leaf_node ws v h (tree_at ws) e f in
       let i = is_loaded w ws before first l in
       record {
@@ -87,7 +88,7 @@ module _ (w : ℕ) (ws : List ℕ) (s : Starts ws) (v : Arity) (h : accepted (ch
           len_is = sym (ap (λ (t : Expr). length (encode t)) n.is);
           rest = i.rest;
           words = head w ws first i ∙ ap₂ (λ (k o : ℕ). k ∷ o ∷ i.rest) n.number_is n.operand_is ∙ ap (λ (t : Expr). encode t ++ i.rest) (sym n.is);
-          long = loaded_long w ws before first l (own_room ws s before r);
+          long = loaded_long w ws before first l (own_room ws x before r);
         };
         read_is = sym (ap (λ (t : Expr). length (encode t)) n.is);
       }
@@ -110,15 +111,12 @@ built_before w ws before first after read len count e i = record {
 
 -- ---- a node over one child
 
-module _ (w : ℕ) (ws : List ℕ) (s : Starts ws) (e : arity_of (get_or ws 0 0) ≡ accepted 1) (first : List ℕ) (l : Loaded w ws first) where
-  node : UnaryNode ws (tree_at ws)
-  node = unary_node ws arity.One (sym e) (tree_at ws) refl (starts_front ws s)
+module _ (w : ℕ) (ws : List ℕ) (x : Leads ws) (e : arity_of (get_or ws 0 0) ≡ accepted 1) (first : List ℕ) (l : Loaded w ws first) where
+  abbrev node : UnaryNode ws (tree_at ws)
+  node = single ws x e
 
   is : tree_at ws ≡ unary node.kind (tree_at (tail 2 ws))
-  is = node.is ∙ ap (unary node.kind) (sym (front_tree (tail 2 ws) node.child node.below))
-
-  pub child_begins : Starts (tail 2 ws)
-  child_begins = record { tree = node.child; front = node.below }
+  is = node_is ws x e
 
   pub child_room : length (encode (tree_at ws)) ≤ length first → length (encode (tree_at (tail 2 ws))) ≤ length (tail 2 first)
   unfolding encode
@@ -139,7 +137,7 @@ module _ (w : ℕ) (ws : List ℕ) (s : Starts ws) (e : arity_of (get_or ws 0 0)
 
     own_length : 2 + length (encode (tree_at (tail 2 ws))) ≤ length ws
     unfolding encode
-    own_length = omega (arith, tree_room ws s, ap (λ (t : Expr). length (encode t)) is)
+    own_length = omega (arith, tree_room ws x, ap (λ (t : Expr). length (encode t)) is)
 
     pub child_ready : length ws ≤ 1024 → Ready w work (2 + n)
     child_ready m =
@@ -168,7 +166,7 @@ module _ (w : ℕ) (ws : List ℕ) (s : Starts ws) (e : arity_of (get_or ws 0 0)
           ∙ omega (arith, ap length i.comes.words, i.comes.long, length_tail 2 first, head_long w ws first l)
 
       pub child_count_fits : length ws ≤ 1024 → Fits w64 (count + count₂)
-      child_count_fits k = let c = count_small w all (small ws s k) in omega arith
+      child_count_fits k = let c = count_small w all (small ws x k) in omega arith
 
       pub one_long : length after ≡ length work → length after ≡ length first
       one_long k = k ∙ work_long
@@ -179,7 +177,7 @@ module _ (w : ℕ) (ws : List ℕ) (s : Starts ws) (e : arity_of (get_or ws 0 0)
         comes = record {
           tree = d.tree;
           ends = all;
-          few = count_small w all (small ws s k);
+          few = count_small w all (small ws x k);
           operands = d.operands;
           len_is = d.len_is;
           rest = d.between ++ drop (2 + n) work;
@@ -191,50 +189,23 @@ module _ (w : ℕ) (ws : List ℕ) (s : Starts ws) (e : arity_of (get_or ws 0 0)
 
 -- ---- a node over two children
 
-module _ (ws : List ℕ) (s : Starts ws) (e : arity_of (get_or ws 0 0) ≡ accepted 2) where
-  pair : BinaryNode ws (tree_at ws)
-  pair = binary_node ws arity.Two (sym e) (tree_at ws) refl (starts_front ws s)
-
-  left_is : tree_at (tail 2 ws) ≡ pair.left
-  left_is = front_tree (tail 2 ws) pair.left pair.left_below
-
-  pub left_begins : Starts (tail 2 ws)
-  left_begins = record { tree = pair.left; front = pair.left_below }
-
-  module _ (right : ℕ) (c : right ≡ 2 + length (encode (tree_at (tail 2 ws)))) where
-    right_front : Front (tail right ws) pair.right
-    right_front =
-        let n = length (encode pair.left) in
-        let k : right ≡ 2 + n = c ∙ ap (λ (t : Expr). 2 + length (encode t)) left_is in
-        let tails : tail n (tail 2 ws) ≡ tail right ws =
-        tail_drop n (tail 2 ws) ∙ ap (drop n) (tail_drop 2 ws) ∙ drop-drop n 2 ws ∙ ap (λ (i : ℕ). drop i ws) (sym k) ∙ sym (tail_drop right ws)
-        in
-        subst (λ (l : List ℕ). Front l pair.right) tails pair.right_below
-
-    both_are : tree_at ws ≡ binary pair.kind (tree_at (tail 2 ws)) (tree_at (tail right ws))
-    both_are = pair.is ∙ ap₂ (binary pair.kind) (sym left_is) (sym (front_tree (tail right ws) pair.right right_front))
-
-    two_length : length (encode (tree_at ws)) ≡ right + length (encode (tree_at (tail right ws)))
-    unfolding encode
-    two_length = ap (λ (t : Expr). length (encode t)) both_are ∙ omega (arith, c, length-append (encode (tree_at (tail 2 ws))) (encode (tree_at (tail right ws))))
-
-module _ (w : ℕ) (ws : List ℕ) (s : Starts ws) (e : arity_of (get_or ws 0 0) ≡ accepted 2) (first : List ℕ) (l : Loaded w ws first) (room : length (encode (tree_at ws)) ≤ length first) where
+module _ (w : ℕ) (ws : List ℕ) (x : Leads ws) (e : arity_of (get_or ws 0 0) ≡ accepted 2) (first : List ℕ) (l : Loaded w ws first) (room : length (encode (tree_at ws)) ≤ length first) where
   abbrev kind : Binary
-  kind = (pair ws s e).kind
+  kind = (pair ws x e).kind
 
   operand_zero : get_or ws 1 0 ≡ 0
   unfolding encode
-  operand_zero = let f = starts_front ws s in ap (λ (v : List ℕ). get_or v 1 0) (f.words ∙ ap (λ (t : Expr). encode t ++ f.rest) (pair ws s e).is)
+  operand_zero = let f = front ws x in ap (λ (v : List ℕ). get_or v 1 0) (f.words ∙ ap (λ (t : Expr). encode t ++ f.rest) (pair ws x e).is)
 
   pub left_room : length (encode (tree_at (tail 2 ws))) ≤ length (tail 2 first)
-  left_room = omega (arith, two_length ws s e (2 + length (encode (tree_at (tail 2 ws)))) refl, length_tail 2 first)
+  left_room = omega (arith, two_length ws x e (2 + length (encode (tree_at (tail 2 ws)))) refl, length_tail 2 first)
 
   module _ (second : List ℕ) (read n count : ℕ) (i : IsBuilt w (tail 2 ws) (tail 2 first) second read n count) where
     from : 2 + read ≡ 2 + length (encode (tree_at (tail 2 ws)))
     from = omega (arith, i.read_is)
 
     lengths : length (encode (tree_at ws)) ≡ 2 + read + length (encode (tree_at (tail (2 + read) ws)))
-    lengths = two_length ws s e (2 + read) from
+    lengths = two_length ws x e (2 + read) from
 
     abbrev half : List ℕ
     half = put_mid 2 (length first - 2) first second
@@ -242,7 +213,7 @@ module _ (w : ℕ) (ws : List ℕ) (s : Starts ws) (e : arity_of (get_or ws 0 0)
     half_is : half ≡ binary_number kind ∷ 0 ∷ (encode i.comes.tree ++ i.comes.rest)
     half_is =
         put_tail 2 first second
-        ∙ ap₂ (λ (x y : List ℕ). x ++ y) (ap (take 2) (head w ws first l) ∙ ap₂ (λ (k o : ℕ). k ∷ o ∷ []) (pair ws s e).number_is operand_zero) i.comes.words
+        ∙ ap₂ (λ (x y : List ℕ). x ++ y) (ap (take 2) (head w ws first l) ∙ ap₂ (λ (k o : ℕ). k ∷ o ∷ []) (pair ws x e).number_is operand_zero) i.comes.words
 
     half_long : length half ≡ length first
     half_long = ap length half_is ∙ omega (arith, ap length i.comes.words, i.comes.long, length_tail 2 first, head_long w ws first l)
@@ -250,11 +221,11 @@ module _ (w : ℕ) (ws : List ℕ) (s : Starts ws) (e : arity_of (get_or ws 0 0)
     less : n ≤ read
     less = ends_short w (tail 2 ws) (tail 2 first) second read n count i
 
-    pub right_begins : Starts (tail (2 + read) ws)
-    right_begins = record { tree = (pair ws s e).right; front = right_front ws s e (2 + read) from }
+    pub right_begins : Leads (tail (2 + read) ws)
+    right_begins = right_leads ws x e (2 + read) from
 
     pub from_inside : 2 + read ≤ length ws
-    from_inside = omega (arith, lengths, tree_room ws s)
+    from_inside = omega (arith, lengths, tree_room ws x)
 
     pub from_fits : length ws ≤ 1024 → Fits w64 (2 + read)
     from_fits h = omega (arith, from_inside)
@@ -275,7 +246,7 @@ module _ (w : ℕ) (ws : List ℕ) (s : Starts ws) (e : arity_of (get_or ws 0 0)
     right_room = omega (arith, half_long, lengths, room, less)
 
     pub right_short : length ws ≤ 1024 → 2 + n + length (encode (tree_at (tail (2 + read) ws))) ≤ 1024
-    right_short h = omega (arith, lengths, tree_room ws s, less)
+    right_short h = omega (arith, lengths, tree_room ws x, less)
 
     module _ (after : List ℕ) (read₂ m count₂ : ℕ) (j : RightBuilt w (tail (2 + read) ws) (2 + n) half after read₂ m count₂) where
       end : Comes w (binary kind i.comes.tree (tree_at (tail (2 + read) ws))) half after m count₂
@@ -283,11 +254,11 @@ module _ (w : ℕ) (ws : List ℕ) (s : Starts ws) (e : arity_of (get_or ws 0 0)
 
       all_two : Ends w (tree_at ws) end.tree (count + count₂)
       all_two =
-          subst (λ (t : Expr). Ends w t end.tree (count + count₂)) (sym (both_are ws s e (2 + read) from))
+          subst (λ (t : Expr). Ends w t end.tree (count + count₂)) (sym (both_are ws x e (2 + read) from))
           (ends_left w kind (tree_at (tail 2 ws)) (tree_at (tail (2 + read) ws)) i.comes.tree end.tree count count₂ i.comes.ends end.ends)
 
       pub two_read_fits : length ws ≤ 1024 → Fits w64 (2 + read + read₂)
-      two_read_fits h = omega (arith, j.read_is, lengths, tree_room ws s)
+      two_read_fits h = omega (arith, j.read_is, lengths, tree_room ws x)
 
       pub two_count_fits : Fits w64 (count + count₂)
       two_count_fits = omega (arith, i.comes.few, end.few)
@@ -300,7 +271,7 @@ module _ (w : ℕ) (ws : List ℕ) (s : Starts ws) (e : arity_of (get_or ws 0 0)
         comes = record {
           tree = end.tree;
           ends = all_two;
-          few = count_small w all_two (small ws s h);
+          few = count_small w all_two (small ws x h);
           operands = end.operands;
           len_is = end.len_is;
           rest = end.rest;
@@ -397,22 +368,22 @@ module _ (ws work : List ℕ) (at : ℕ) (g : at + length (encode (tree_at ws)) 
 pub node_falls : (ws : List ℕ) (m : ℕ) → 2 * length ws + 1 ≡ m → 2 * length ws < m
 node_falls ws m e = omega arith
 
-pub part_falls : (ws : List ℕ) → Starts ws → (from m : ℕ) → 2 * length ws ≡ m → 2 ≤ from → 2 * length (tail from ws) + 1 < m
-part_falls ws s from m e h = omega (arith, length_tail from ws, has_node ws s)
+pub part_falls : (ws : List ℕ) → Leads ws → (from m : ℕ) → 2 * length ws ≡ m → 2 ≤ from → 2 * length (tail from ws) + 1 < m
+part_falls ws s from m e h = omega (arith, length_tail from ws, node_inside ws s)
 
 pub right_falls : (ws : List ℕ) (m : ℕ) → 2 * length ws + 2 ≡ m → 2 * length ws + 1 < m
 right_falls ws m e = omega arith
 
-pub part_right_falls : (ws : List ℕ) → Starts ws → (from m : ℕ) → 2 * length ws ≡ m → 2 ≤ from → 2 * length (tail from ws) + 2 < m
-part_right_falls ws s from m e h = omega (arith, length_tail from ws, has_node ws s)
+pub part_right_falls : (ws : List ℕ) → Leads ws → (from m : ℕ) → 2 * length ws ≡ m → 2 ≤ from → 2 * length (tail from ws) + 2 < m
+part_right_falls ws s from m e h = omega (arith, length_tail from ws, node_inside ws s)
 
 pub two_least : (n : ℕ) → 2 ≤ 2 + n
 two_least n = omega arith
 
-pub ruleset building = (lead_starts, has_node, own_room, is_loaded, loaded_long, loaded_room, leaf_built, arity_one, arity_two, built_before, node_falls)
+pub ruleset building = (node_inside, own_room, is_loaded, loaded_long, loaded_room, leaf_built, arity_one, arity_two, built_before, node_falls)
 
-pub ruleset building_one = (lead_starts, starts_lead, has_node, head_long, child_begins, tail_short, child_room, child_ready, child_arity, child_len_fits, child_read_fits, child_count_fits, one_long, one_built, part_falls, two_least)
+pub ruleset building_one = (node_inside, head_long, child_leads, tail_short, child_room, child_ready, child_arity, child_len_fits, child_read_fits, child_count_fits, one_long, one_built, part_falls, two_least)
 
 pub ruleset building_right = (place_inside, behind_room, place_scaled, over_fits, over_ready, over_arity, over_right, right_count_fits, right_long, right_built, right_falls)
 
-pub ruleset building_two = (lead_starts, starts_lead, has_node, head_long, left_begins, tail_short, left_room, right_begins, from_inside, from_fits, from_scaled, at_fits, has_left, right_room, right_short, two_read_fits, two_count_fits, two_long, two_built, part_falls, part_right_falls, two_least)
+pub ruleset building_two = (node_inside, head_long, left_leads, tail_short, left_room, right_begins, from_inside, from_fits, from_scaled, at_fits, has_left, right_room, right_short, two_read_fits, two_count_fits, two_long, two_built, part_falls, part_right_falls, two_least)

@@ -8,6 +8,7 @@ pub mod WriteLaws
 pub mod InPlaceLaws
 pub mod ReplacementLaws
 pub mod ReplaceLaws
+pub mod WalkLaws
 pub mod SearchLaws
 pub mod CallLaws
 pub mod SettleLaws

@@ -1,5 +1,5 @@
 -- The search for the first site. Assumes nothing.
-use mathlib.Core.Path.{◌≡◌, refl, sym, ap, ap₂, subst, ◌∙◌}
+use mathlib.Core.Path.{◌≡◌, refl, sym, ap, subst, ◌∙◌}
 use mathlib.Core.List.{List, [], ◌∷◌, ◌++◌}
 use mathlib.Core.Option.{Option, none, some}
 use Prim.Native.Nat.{ℕ, suc, ◌+◌, ◌*◌, ◌-◌, ◌^◌, ◌≤◌, ◌<◌}
@@ -17,15 +17,15 @@ use Rattle.expr.specs.declared.Arity.{Arity}
 use Rattle.expr.specs.declared.Arity.TheVariants as arity
 use Rattle.expr.specs.declared.tree.Tree.{Tree}
 use Rattle.expr.specs.Outcome.{accepted}
-use Rattle.expr.specs.Expr.{Expr, unary, binary, encode, depth}
+use Rattle.expr.specs.Expr.{Expr, unary, encode, depth}
 use Rattle.expr.specs.ExprLaws.{depth_pos}
 use Rattle.expr.specs.Parse.{arity_of}
 use Rattle.expr.specs.Answers.{children_of}
 use Rattle.expr.specs.Parts.{tail}
 use Rattle.expr.specs.TailLaws.{tail_drop, length_tail}
-use Rattle.expr.specs.Front.{Front, Leads, Exactly, Whole, tree_at, left_of}
-use Rattle.expr.specs.FrontLaws.{arity_two, LeafNode, UnaryNode, BinaryNode, leaf_node, unary_node, binary_node, has_node}
-use Rattle.expr.specs.PartLaws.{tail_short, front_tree, starts_front, starts_lead, lead_starts, exact_tree, exact_whole}
+use Rattle.expr.specs.Front.{Leads, Exactly, Whole, tree_at, left_of}
+use Rattle.expr.specs.FrontLaws.{LeafNode, leaf_node, arity_one, arity_two}
+use Rattle.expr.specs.PartLaws.{tail_short, exact_tree, exact_whole}
 use Rattle.expr.specs.LentLaws.{put_tail}
 use Rattle.expr.specs.Optional.{map, ◌or_else◌}
 use Rattle.expr.specs.Trees.{tree_of}
@@ -35,6 +35,7 @@ use Rattle.rewriting.specs.SiteLaws.{first_site_lem}
 use Rattle.atom_simplifier.specs.declared.local.Decision.{Decision}
 use Rattle.atom_simplifier.specs.declared.search.Site.{Site}
 use Rattle.atom_simplifier.specs.Promises.{Meaning, Decides, at_root, IsFound, SearchIs, Searched}
+use Rattle.atom_simplifier.proofs.WalkLaws.{front, front_inside, node_inside, single, node_is, child_leads, pair, left_leads, both_are, right_leads, two_length, right_inside}
 
 -- ---- answers
 
@@ -79,13 +80,10 @@ at_root_lem w root t d r before after o k e h g i =
 -- ---- the node at the front, as its arity tells
 
 module _ (ws : List ℕ) (x : Leads ws) where
-  front : Front ws (tree_at ws)
-  front = starts_front ws (lead_starts ws x)
-
   -- its words, of those that begin with them
   module _ (n : ℕ) (e : n ≡ length (encode (tree_at ws))) where
     exact : Exactly (take n ws) (tree_at ws)
-    exact = record { words = ap (take n) front.words ∙ take_at (encode (tree_at ws)) front.rest n (sym e); operands = front.operands }
+    exact = let f = front ws x in record { words = ap (take n) f.words ∙ take_at (encode (tree_at ws)) f.rest n (sym e); operands = f.operands }
 
     whole_front : Whole (take n ws)
     whole_front = exact_whole (take n ws) (tree_at ws) exact
@@ -93,17 +91,11 @@ module _ (ws : List ℕ) (x : Leads ws) where
     same_tree : tree_at (take n ws) ≡ tree_at ws
     same_tree = exact_tree (take n ws) (tree_at ws) exact
 
-    front_inside : n ≤ length ws
-    front_inside = omega (arith, ap length front.words, length-append (encode (tree_at ws)) front.rest)
-
     front_length : n ≡ length (take n ws)
     front_length = e ∙ sym (ap length exact.words)
 
     front_short : length ws ≤ 1024 → length (take n ws) ≤ 1024
-    front_short h = omega (arith, front_length, front_inside)
-
-  pub node_inside : 2 ≤ length ws
-  node_inside = has_node ws (lead_starts ws x)
+    front_short h = omega (arith, front_length, front_inside ws x n e)
 
 module _ (ws : List ℕ) (x : Leads ws) (v : Arity) (h : accepted (children_of v) ≡ arity_of (get_or ws 0 0)) where
   -- a leaf
@@ -117,23 +109,17 @@ module _ (ws : List ℕ) (x : Leads ws) (v : Arity) (h : accepted (children_of v
 
   -- a node over one child
   module _ (e : v ≡ arity.One) where
-    u : UnaryNode ws (tree_at ws)
-    u = unary_node ws v h (tree_at ws) e (front ws x)
-
-    node_is : tree_at ws ≡ unary u.kind (tree_at (tail 2 ws))
-    node_is = u.is ∙ ap (unary u.kind) (sym (front_tree (tail 2 ws) u.child u.below))
-
-    pub child_leads : Leads (tail 2 ws)
-    child_leads = starts_lead (tail 2 ws) (record { tree = u.child; front = u.below })
+    is : tree_at ws ≡ unary (single ws x (arity_one ws v h e)).kind (tree_at (tail 2 ws))
+    is = node_is ws x (arity_one ws v h e)
 
     pub child_depth : (path : List ℕ) → depth (tree_at ws) ≤ length path + 1 → depth (tree_at (tail 2 ws)) ≤ length path
     unfolding depth
-    child_depth path d = omega (arith, ap depth node_is)
+    child_depth path d = omega (arith, ap depth is)
 
     module _ (n : ℕ) (c : n ≡ length (encode (tree_at (tail 2 ws)))) where
       one_words : 2 + n ≡ length (encode (tree_at ws))
       unfolding encode
-      one_words = omega (arith, ap (λ (t : Expr). length (encode t)) node_is)
+      one_words = omega (arith, ap (λ (t : Expr). length (encode t)) is)
 
       pub one_taken : 2 + n ≡ length (take (2 + n) ws)
       one_taken = front_length ws x (2 + n) one_words
@@ -151,8 +137,8 @@ module _ (ws : List ℕ) (x : Leads ws) (v : Arity) (h : accepted (children_of v
       sites : first_site w (tree_at ws) ≡ (map (below 0) (first_site w (tree_at (tail 2 ws))) or_else map here (local_rewrite w (tree_at ws)))
       unfolding first_site
       sites =
-          ap (first_site w) node_is
-          ∙ ap (λ (t : Expr). map (below 0) (first_site w (tree_at (tail 2 ws))) or_else map here (local_rewrite w t)) (sym node_is)
+          ap (first_site w) is
+          ∙ ap (λ (t : Expr). map (below 0) (first_site w (tree_at (tail 2 ws))) or_else map here (local_rewrite w t)) (sym is)
 
       pub one_found : (s : Site) → r ≡ Break s → (a : ControlFlow Site ℕ) → a ≡ Break s → Searched (first_site w (tree_at ws)) (length (encode (tree_at ws))) before after a
       one_found s f a g =
@@ -168,52 +154,21 @@ module _ (ws : List ℕ) (x : Leads ws) (v : Arity) (h : accepted (children_of v
 
 -- a node over two children
 module _ (ws : List ℕ) (x : Leads ws) (e : arity_of (get_or ws 0 0) ≡ accepted 2) where
-  b : BinaryNode ws (tree_at ws)
-  b = binary_node ws arity.Two (sym e) (tree_at ws) refl (front ws x)
-
-  left_is : tree_at (tail 2 ws) ≡ b.left
-  left_is = front_tree (tail 2 ws) b.left b.left_below
-
-  pub left_leads : Leads (tail 2 ws)
-  left_leads = starts_lead (tail 2 ws) (record { tree = b.left; front = b.left_below })
-
   pub left_depth : (path : List ℕ) → depth (tree_at ws) ≤ length path + 1 → depth (tree_at (tail 2 ws)) ≤ length path
   unfolding depth
-  left_depth path d = omega (arith, ap depth b.is, ap depth left_is)
+  left_depth path d = omega (arith, ap depth (both_are ws x e (2 + length (encode (tree_at (tail 2 ws)))) refl))
 
   module _ (right : ℕ) (c : right ≡ 2 + length (encode (tree_at (tail 2 ws)))) where
-    right_front : Front (tail right ws) b.right
-    right_front =
-        let k : right ≡ 2 + length (encode b.left) = c ∙ ap (λ (t : Expr). 2 + length (encode t)) left_is in
-        let n = length (encode b.left) in
-        let tails : tail n (tail 2 ws) ≡ tail right ws =
-        tail_drop n (tail 2 ws) ∙ ap (drop n) (tail_drop 2 ws) ∙ drop-drop n 2 ws ∙ ap (λ (i : ℕ). drop i ws) (sym k) ∙ sym (tail_drop right ws)
-        in
-        subst (λ (l : List ℕ). Front l b.right) tails b.right_below
-
-    both_are : tree_at ws ≡ binary b.kind (tree_at (tail 2 ws)) (tree_at (tail right ws))
-    both_are = b.is ∙ ap₂ (binary b.kind) (sym left_is) (sym (front_tree (tail right ws) b.right right_front))
-
-    pub right_leads : Leads (tail right ws)
-    right_leads = starts_lead (tail right ws) (record { tree = b.right; front = right_front })
-
     pub right_depth : (path : List ℕ) → depth (tree_at ws) ≤ length path + 1 → depth (tree_at (tail right ws)) ≤ length path
     unfolding depth
-    right_depth path d = omega (arith, ap depth both_are)
+    right_depth path d = omega (arith, ap depth (both_are ws x e right c))
 
     pub right_first : 1 ≤ right
     right_first = omega (arith, c)
 
-    two_length : length (encode (tree_at ws)) ≡ right + length (encode (tree_at (tail right ws)))
-    unfolding encode
-    two_length = ap (λ (t : Expr). length (encode t)) both_are ∙ omega (arith, c, length-append (encode (tree_at (tail 2 ws))) (encode (tree_at (tail right ws))))
-
-    pub right_inside : right ≤ length ws
-    right_inside = omega (arith, two_length, front_inside ws x (length (encode (tree_at ws))) refl)
-
     module _ (n : ℕ) (k : n ≡ length (encode (tree_at (tail right ws)))) where
       two_words : right + n ≡ length (encode (tree_at ws))
-      two_words = omega (arith, two_length)
+      two_words = omega (arith, two_length ws x e right c)
 
       pub two_taken : right + n ≡ length (take (right + n) ws)
       two_taken = front_length ws x (right + n) two_words
@@ -230,14 +185,14 @@ module _ (ws : List ℕ) (x : Leads ws) (e : arity_of (get_or ws 0 0) ≡ accept
       -- the first word of a node over two children is the number of its kind
       first : get_or (take (right + n) ws) 0 0 ≡ get_or ws 0 0
       unfolding encode
-      first = ap (λ (l : List ℕ). get_or l 0 0) ((exact ws x (right + n) two_words).words ∙ ap encode b.is) ∙ sym b.number_is
+      first = ap (λ (l : List ℕ). get_or l 0 0) ((exact ws x (right + n) two_words).words ∙ ap encode (pair ws x e).is) ∙ sym (pair ws x e).number_is
 
       pub two_arity : arity_of (get_or (take (right + n) ws) 0 0) ≡ accepted 2
       two_arity = ap arity_of first ∙ e
 
       pub two_place : right ≡ 2 + length (encode (left_of (tree_at (take (right + n) ws))))
       two_place =
-          c ∙ ap (λ (t : Expr). 2 + length (encode (left_of t))) (sym (same_tree ws x (right + n) two_words ∙ both_are))
+          c ∙ ap (λ (t : Expr). 2 + length (encode (left_of t))) (sym (same_tree ws x (right + n) two_words ∙ both_are ws x e right c))
 
     module _ (w n : ℕ) (before after : List ℕ) (r : ControlFlow Site ℕ) (p : Searched (map (below 1) (first_site w (tree_at (tail right ws)))) n before after r) where
       abbrev o : Option def.Site
@@ -259,8 +214,8 @@ module _ (ws : List ℕ) (x : Leads ws) (e : arity_of (get_or ws 0 0) ≡ accept
         → first_site w (tree_at ws) ≡ (map (below 0) (first_site w (tree_at (tail 2 ws))) or_else map (below 1) (first_site w (tree_at (tail right ws))) or_else map here (local_rewrite w (tree_at ws)))
     unfolding first_site
     both_sites right c =
-        ap (first_site w) (both_are right c)
-        ∙ ap (λ (t : Expr). map (below 0) (first_site w (tree_at (tail 2 ws))) or_else map (below 1) (first_site w (tree_at (tail right ws))) or_else map here (local_rewrite w t)) (sym (both_are right c))
+        ap (first_site w) (both_are ws x e right c)
+        ∙ ap (λ (t : Expr). map (below 0) (first_site w (tree_at (tail 2 ws))) or_else map (below 1) (first_site w (tree_at (tail right ws))) or_else map here (local_rewrite w t)) (sym (both_are ws x e right c))
 
     module _ (n : ℕ) (before mid : List ℕ) (r : ControlFlow Site ℕ) (q : Searched (map (below 0) (first_site w (tree_at (tail 2 ws)))) n before mid r) where
       pub left_found : (s : Site) → r ≡ Break s → (a : ControlFlow Site ℕ) → a ≡ Break s → Searched (first_site w (tree_at ws)) (length (encode (tree_at ws))) before mid a
@@ -277,7 +232,7 @@ module _ (ws : List ℕ) (x : Leads ws) (e : arity_of (get_or ws 0 0) ≡ accept
         left_place = omega (arith, none_left.1)
 
         pub left_fits : length ws ≤ 1024 → Fits w64 (2 + m)
-        left_fits i = omega (arith, right_inside (2 + m) left_place)
+        left_fits i = omega (arith, right_inside ws x e (2 + m) left_place)
 
         -- the lent bytes are as they were
         pub mid_depth : depth (tree_at ws) ≤ length before + 1 → depth (tree_at ws) ≤ length mid + 1
@@ -351,7 +306,7 @@ module _ (ws : List ℕ) (by : ℕ) where
             bytes [] k = absurd (omega arith)
             bytes (y ∷ ys) k = refl
 
-pub ruleset searching = (node_inside, none_words, leaf_searched, child_leads, child_depth, one_taken, one_short, one_fits, one_whole, one_found, one_root, arity_two, left_leads, left_depth, left_found, left_place, left_fits, mid_depth, then_right)
+pub ruleset searching = (node_inside, arity_one, none_words, leaf_searched, child_leads, child_depth, one_taken, one_short, one_fits, one_whole, one_found, one_root, arity_two, left_leads, left_depth, left_found, left_place, left_fits, mid_depth, then_right)
 
 pub ruleset from_right = (none_words, right_leads, right_depth, right_first, right_inside, two_taken, two_short, two_fits, two_whole, two_arity, two_place, right_found, two_root)
 

@@ -22,7 +22,7 @@ use Rattle.expr.specs.KindLaws.{number_arity}
 use Rattle.expr.specs.Parse as kinds
 use Rattle.expr.specs.Parse.{arity_of, operands_ok}
 use Rattle.expr.specs.Parts.{part, Laid}
-use Rattle.expr.specs.Front.{Front, Starts, Exactly, Whole, tree_at, left_of, right_of}
+use Rattle.expr.specs.Front.{Front, Exactly, Whole, tree_at, left_of, right_of}
 use Rattle.expr.specs.FrontLaws.{front_length}
 use Rattle.expr.specs.PartLaws.{front_tree, front_part, starts_front, exact_tree, exact_whole}
 use Rattle.expr.specs.SubtreeLaws.{even_part}
@@ -66,9 +66,6 @@ first_word (leaf k) vs = refl
 first_word (unary k t) vs = refl
 first_word (binary k l r) vs = refl
 
-pub front_inside : (ws : List ℕ) → Starts ws → (n : ℕ) → n ≡ length (encode (tree_at ws)) → n ≤ length ws
-front_inside ws s n e = omega (arith, front_length ws (tree_at ws) (starts_front ws s))
-
 module _ (w : ℕ) (ws : List ℕ) (len : ℕ) (r : Ready w ws len) where
   own : Front ws (tree_at ws)
   own = starts_front ws r.starts
@@ -77,7 +74,7 @@ module _ (w : ℕ) (ws : List ℕ) (len : ℕ) (r : Ready w ws len) where
   exact = front_part ws (tree_at ws) own len r.len_is
 
   pub ready_inside : len ≤ length ws
-  ready_inside = front_inside ws r.starts len r.len_is
+  ready_inside = omega (arith, front_length ws (tree_at ws) own, r.len_is)
 
   pub ready_whole : Whole (part 0 len ws)
   ready_whole = exact_whole (part 0 len ws) (tree_at ws) exact
