@@ -302,9 +302,6 @@ module _ (sum : Tree) (list : List Addend) (count : ℕ) (signs : List Bool) (du
     pub gathered_count : count ≡ length (flatten_addends (tree_at ws))
     gathered_count = sym (length-take-le count list (omega (arith, g.counted, g.has_list))) ∙ are_length ws (take count list) (flatten_addends (tree_at ws)) gathered_are
 
-  pub gathered_few : count ≤ 256
-  gathered_few = g.counted
-
   module _ (pos : 0 < due) where
     abbrev here : Split g.pending
     here = split g.pending (omega (arith, g.due_is))
@@ -348,12 +345,6 @@ module _ (sum : Tree) (list : List Addend) (count : ℕ) (signs : List Bool) (du
 
     pub kind_left : at < length ws
     kind_left = omega (arith, node_left)
-
-    pub place_fits : Fits w64 (at + 2)
-    place_fits = omega (arith, node_left, sum.short)
-
-    pub turn_falls : length ws - (at + 2) < length ws - at
-    turn_falls = omega (arith, node_left)
 
     pub top_below : due - 1 < 512
     top_below = omega (arith, last, left, two_each more, length_encode tree, nodes_pos tree, sum.short)
@@ -426,12 +417,6 @@ module _ (sum : Tree) (list : List Addend) (count : ℕ) (signs : List Bool) (du
       count_below =
           omega (arith, total, ap length state.all, length-append (take count list) (placed tree at sign ++ placed_all more (at + length (encode tree))), length-append (placed tree at sign) (placed_all more (at + length (encode tree))), ap length one_placed, length-take-le count list (omega (arith, g.counted, g.has_list)))
 
-      pub count_fits : Fits w64 (count + 1)
-      count_fits = omega (arith, count_below)
-
-      pub count_scaled : Fits w64 (count * 24)
-      count_scaled = omega (arith, count_below)
-
       module _ (c : std.Result ℕ Refusal) (h : outcome c ≡ span_of (tail at ws)) where
         pub length_read : is_ok c ≡ true
         length_read = by_answer c h
@@ -464,4 +449,4 @@ module _ (sum : Tree) (list : List Addend) (count : ℕ) (signs : List Bool) (du
                 (one_turn ws list count signs sign more at tree one_placed (omega (arith, count_below, g.has_list)) state));
           }
 
-pub ruleset gathers = (gathering_first, gathered_are, gathered_count, gathered_few, kind_left, place_fits, turn_falls, top_below, due_below, due_fits, gathering_add, gathering_neg, length_read, count_below, count_fits, count_scaled, past_fits, past_falls, gathering_one)
+pub ruleset gathers = (gathering_first, gathered_are, gathered_count, kind_left, top_below, due_below, due_fits, gathering_add, gathering_neg, length_read, count_below, past_fits, past_falls, gathering_one)

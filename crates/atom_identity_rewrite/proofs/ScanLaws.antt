@@ -1,5 +1,5 @@
 -- A list of addends that is read, one after the other. Assumes nothing.
-use Rattle.std.specs.Prelude.{◌≡◌, refl, List, [], ◌∷◌, ◌++◌, ℕ, zero, suc, ◌+◌, ◌≤◌, ◌<◌, length, take, get_or}
+use Rattle.std.specs.Prelude.{◌≡◌, refl, List, [], ◌∷◌, ◌++◌, ℕ, zero, suc, ◌+◌, ◌<◌, length, take, get_or}
 use Rattle.std.proofs.Common.{sym, ap, subst, ◌∙◌, arith, add-one, take-suc}
 use Rattle.std.proofs.lemmas.Fn.{FoldsTo-push}
 use Rattle.expr.specs.Parts.{part}
@@ -18,13 +18,10 @@ module _ (ws : List ℕ) (a : Addend) where
   placed_is {x} h = λ i. record { expr = exact_tree (part a.start (a.start + a.len) ws) x.expr h.stands.exactly i; negated = h.sign i }
 
   module _ (h : Named ws a) where
-    pub placed_inside : a.start + a.len ≤ length ws
-    placed_inside = h.is.stands.inside
-
     pub placed_whole : Whole (part a.start (a.start + a.len) ws)
     placed_whole = exact_whole (part a.start (a.start + a.len) ws) h.addend.expr h.is.stands.exactly
 
-pub ruleset places = (parts, placed_inside, placed_whole)
+pub ruleset places = (parts, placed_whole)
 
 -- ---- each addend of the list is named
 

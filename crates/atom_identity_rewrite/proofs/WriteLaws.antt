@@ -4,7 +4,6 @@ use Rattle.std.proofs.Common.{sym, ap, subst, ◌∙◌, arith, length-append}
 use borrow.Rule.Slice.PartMut.{put_mid}
 use Rattle.expr.specs.Expr.{encode, binary_number}
 use Rattle.expr.specs.Parts.{tail, Laid}
-use Rattle.expr.specs.TailLaws.{length_tail}
 use Rattle.expr.specs.Front.{Whole, tree_at}
 use Rattle.expr.specs.LentLaws.{laid_length, laid_on}
 use Rattle.expr.specs.Trees.{tree_of}
@@ -28,9 +27,6 @@ module _ (ws : List ℕ) (x : Whole ws) (b : Bool) where
     pub turned_count : 2 + length ws ≡ length (encode (second_tree b (tree_at ws)))
     turned_count = sym turned_long
 
-    pub turned_room : (before : List ℕ) → length (encode (second_tree b (tree_at ws))) ≤ length before → 2 + length ws ≤ length before
-    turned_room before h = omega (arith, turned_long)
-
     pub turned_laid : (before after : List ℕ) → Laid before after ((7 ∷ 0 ∷ []) ++ encode (tree_at ws)) → Laid before after (encode (second_tree b (tree_at ws)))
     turned_laid before after l = subst (Laid before after) (sym turned_words) l
 
@@ -38,16 +34,7 @@ module _ (ws : List ℕ) (x : Whole ws) (b : Bool) where
     plain_words : encode (second_tree b (tree_at ws)) ≡ encode (tree_at ws)
     plain_words = ap (λ (c : Bool). encode (second_tree c (tree_at ws))) e
 
-    pub plain_fits : (before : List ℕ) → length (encode (second_tree b (tree_at ws))) ≤ length before → length ws ≤ length before
-    plain_fits before h = omega (arith, ap length plain_words, long)
-
-    pub plain_laid : (before after : List ℕ) → Laid before after (encode (tree_at ws)) → Laid before after (encode (second_tree b (tree_at ws)))
-    plain_laid before after l = subst (Laid before after) (sym plain_words) l
-
-    pub plain_count : length ws ≡ length (encode (second_tree b (tree_at ws)))
-    plain_count = long ∙ sym (ap length plain_words)
-
-pub ruleset seconds = (turned_room, turned_laid, turned_count, plain_fits, plain_laid, plain_count)
+pub ruleset seconds = (turned_laid, turned_count)
 
 -- ---- `write_candidate`
 
@@ -70,18 +57,12 @@ module _ (c : Candidate) (before : List ℕ) (h : length (encode (candidate_tree
   all_long : length (encode (candidate_tree c)) ≡ 2 + length c.first.words.now + length second_words
   all_long = ap length words_are ∙ length-append first_words second_words ∙ omega (arith, first_long)
 
-  pub first_fits : 2 + length c.first.words.now ≤ length before
+  first_fits : 2 + length c.first.words.now ≤ length before
   first_fits = omega (arith, all_long)
 
   module _ (mid : List ℕ) (l : Laid before mid first_words) where
     laid_long : length mid ≡ length before
     laid_long = laid_length before mid first_words l (omega (arith, first_long, first_fits))
-
-    pub second_inside : 2 + length c.first.words.now ≤ length mid
-    second_inside = omega (arith, laid_long, first_fits)
-
-    pub second_room : length second_words ≤ length (tail (2 + length c.first.words.now) mid)
-    second_room = omega (arith, length_tail (2 + length c.first.words.now) mid, laid_long, all_long)
 
     pub candidate_written : (rest : List ℕ) → Laid (tail (2 + length c.first.words.now) mid) rest second_words
         → Laid before (put_mid (2 + length c.first.words.now) (length mid - (2 + length c.first.words.now)) mid rest) (encode (candidate_tree c))
@@ -90,4 +71,4 @@ module _ (c : Candidate) (before : List ℕ) (h : length (encode (candidate_tree
   pub candidate_count : (n : ℕ) → n ≡ length second_words → 2 + length c.first.words.now + n ≡ length (encode (candidate_tree c))
   candidate_count n m = ap (λ (i : ℕ). 2 + length c.first.words.now + i) m ∙ sym all_long
 
-pub ruleset writing = (first_fits, second_inside, second_room, candidate_written, candidate_count)
+pub ruleset writing = (candidate_written, candidate_count)
