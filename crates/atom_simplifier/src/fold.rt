@@ -82,6 +82,7 @@ pub(crate) fn is_constant(tree: Tree<'_>, c: u64, width: Width) -> bool
 }
 
 // Trees are compared as the width has it; the candidates' `is_not_of` compares them raw.
+#[inline]
 #[tactic(auto, using(crate::proofs::OperandLaws::not_tests))]
 fn is_not_of(outer: Tree<'_>, inner: Tree<'_>, width: Width) -> bool
     ensures { result ≡ is_not_of width.bits (tree_of outer.entry) (tree_of inner.entry) }
@@ -99,7 +100,9 @@ fn are_complements(a: Tree<'_>, b: Tree<'_>, width: Width) -> bool
     is_not_of(a, b, width) || is_not_of(b, a, width)
 }
 
-// Whether `whole` is a node of the kind `op` with `part` as one of its two operands.
+// Whether `whole` is a node of the kind `op` with `part` as one of its two operands. Inlined, as the arms ask it
+// of nodes that mostly are of another kind.
+#[inline(always)]
 #[tactic(auto, using(crate::proofs::OperandLaws::operand_tests))]
 fn contains_operand(whole: Tree<'_>, op: Binary, part: Tree<'_>, width: Width) -> bool
     ensures { result ≡ contains_operand width.bits (tree_of whole.entry) op (tree_of part.entry) }

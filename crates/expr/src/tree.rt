@@ -70,6 +70,7 @@ impl<'a> Tree<'a> {
     }
 
     // The word of a Constant.
+    #[inline]
     #[tactic(auto, using(crate::specs::PartLaws::parts, crate::proofs::ChildLaws::no_constant, crate::proofs::ChildLaws::constant_word))]
     pub fn constant(self) -> Option<u64>
         ensures { option_of result ≡ constant_of (tree_of self.entry) }
@@ -82,6 +83,7 @@ impl<'a> Tree<'a> {
     }
 
     // The operand, where it is a node of that kind.
+    #[inline]
     pub fn operand(self, kind: Unary) -> Option<Tree<'a>>
         ensures { optional_tree result ≡ operand_of kind (tree_of self.entry) }
     {
@@ -95,7 +97,8 @@ impl<'a> Tree<'a> {
         Some(Tree { words: &words[2..] })
     }
 
-    // Where the right operand's words begin.
+    // Where the right operand's words begin. Not inlined, so that what first asks for the kind stays small.
+    #[inline(never)]
     fn right_at(self) -> usize
         requires { arity_of (get_or self.words.now 0 0) ≡ accepted 2 }
         ensures { result ≡ 2 + length (encode (left_of (tree_of self.entry))) }
@@ -122,6 +125,7 @@ impl<'a> Tree<'a> {
     }
 
     // The operands, where it is a node of that kind.
+    #[inline]
     pub fn operands(self, kind: Binary) -> Option<(Tree<'a>, Tree<'a>)>
         ensures { optional_trees result ≡ operands_of kind (tree_of self.entry) }
     {
@@ -133,6 +137,7 @@ impl<'a> Tree<'a> {
     }
 
     // The root, with what is below it.
+    #[inline]
     pub fn node(self) -> Node<'a>
         ensures { node_of result ≡ tree_of self.entry }
     {
@@ -173,6 +178,7 @@ impl<'a> Walk<'a> {
     }
 
     // The number of children of the tree's root.
+    #[inline]
     #[tactic(auto, using(crate::specs::PartLaws::lead_starts, crate::specs::FrontLaws::has_kind, crate::specs::FrontLaws::has_arity, crate::specs::FrontLaws::known_arity))]
     pub fn arity(self) -> Arity
         ensures { accepted (children_of result) ≡ arity_of (get_or self.entry.words.now 0 0) }
