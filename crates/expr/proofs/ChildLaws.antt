@@ -30,7 +30,7 @@ use Rattle.expr.specs.Optional.{only_if}
 use Rattle.expr.specs.Parts.{tail, part}
 use Rattle.expr.specs.TailLaws.{length_tail}
 use Rattle.expr.specs.Front.{Front, Starts, Leads, Exactly, Whole, tree_at, left_of, right_of}
-use Rattle.expr.specs.FrontLaws.{is_tree, leaf_node, has_arity, known_arity, arity_one, arity_two}
+use Rattle.expr.specs.FrontLaws.{is_tree, tree_short, leaf_node, has_arity, known_arity, arity_one, arity_two}
 use Rattle.expr.specs.PartLaws.{parts, starts_lead, exact_length, exact_tree, exact_whole, exact_front, one_child, two_children, child_tree, left_tree, right_tree}
 use Rattle.expr.proofs.FoldLaws.{leaf_fits, unary_operand_fits}
 use Rattle.expr.specs.Trees.{constant_of, operand_of, operands_of}
@@ -45,7 +45,7 @@ module _ (ws : List ℕ) (n : ℕ) (e : accepted n ≡ mapped nodes (parse ws)) 
   read_whole = exact_whole ws (is_tree ws n e).tree exact
 
   pub read_short : length ws ≤ 1024
-  read_short = let t = is_tree ws n e in let a = parse_sound ws t.tree t.is in omega (arith, ap length a.words, length_encode t.tree, a.valid.count)
+  read_short = tree_short ws (is_tree ws n e)
 
   pub read_tree : accepted (tree_at ws) ≡ parse ws
   read_tree = ap accepted (exact_tree ws (is_tree ws n e).tree exact) ∙ sym (is_tree ws n e).is

@@ -3,7 +3,7 @@ use mathlib.Core.Path.{◌≡◌, sym, ap, ◌∙◌}
 use mathlib.Core.Bool.{Bool, true, false, not}
 use Prim.Native.Nat.{ℕ, ◌%◌, ◌<◌, ◌≤◌}
 use native.Mathlib.Omega.{arith}
-use lib.Dec.{eqb}
+use lib.Dec.{leb, eqb}
 use borrow.Author.Tests.{eq-eqb, ne_eqb, not-true, not-false, lt-ltb, le-ltb, le-leb, lt-leb}
 use Rattle.std.specs.Prelude.{if◌then◌else◌, Result, Ok, Err}
 use Rattle.expr.specs.declared.refusal.Reason.{Reason}
@@ -89,3 +89,29 @@ module _ (n : ℕ) where
   pairs a b = simp (ne_eqb n 0 a, le-leb n 1024 b)
 
 pub ruleset counts = (empty, many, pairs)
+
+-- ---- `operand_ok`
+
+module _ (k o : ℕ) where
+  pub constant_operand : k ≡ 0 → true ≡ operand_ok k o
+  unfolding operand_ok
+  constant_operand e = rw e
+
+  pub variable_operand : k ≡ 1 → leb o 4294967295 ≡ operand_ok k o
+  unfolding operand_ok
+  variable_operand e = rw e
+
+  module _ (a : k ≡ 0 → ⊥) (b : k ≡ 1 → ⊥) where
+    pub number_operand : 9 ≤ k → k < 13 → leb o 4294967295 ≡ operand_ok k o
+    unfolding operand_ok
+    number_operand c d = simp (ne_eqb k 0 a, ne_eqb k 1 b, le-leb 9 k c, le-leb k 12 (omega arith))
+
+    pub below_operand : k < 9 → eqb o 0 ≡ operand_ok k o
+    unfolding operand_ok
+    below_operand c = simp (ne_eqb k 0 a, ne_eqb k 1 b, lt-leb 9 k c)
+
+    pub above_operand : 9 ≤ k → 13 ≤ k → eqb o 0 ≡ operand_ok k o
+    unfolding operand_ok
+    above_operand c d = simp (ne_eqb k 0 a, ne_eqb k 1 b, le-leb 9 k c, lt-leb k 12 (omega arith))
+
+pub ruleset operand_rules = (constant_operand, variable_operand, number_operand, below_operand, above_operand)

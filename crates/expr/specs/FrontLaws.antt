@@ -310,6 +310,13 @@ pub record IsTree (ws : List ℕ) : Type 0 where
 pub is_tree : (ws : List ℕ) (n : ℕ) → accepted n ≡ mapped nodes (parse ws) → IsTree ws
 is_tree ws n e = let m : Made nodes (parse ws) n = mapped_made nodes (parse ws) e in record { tree = m.answer; is = m.was }
 
+module _ (ws : List ℕ) (t : IsTree ws) where
+  pub tree_starts : Starts ws
+  tree_starts = record { tree = t.tree; front = parse_front ws t.tree t.is }
+
+  pub tree_short : length ws ≤ 1024
+  tree_short = let a = parse_sound ws t.tree t.is in omega (arith, ap length a.words, length_encode t.tree, a.valid.count)
+
 -- a refusal is handed on
 pub turned_down : {A : Type 0} (o : Outcome Expr) (r : Reason) → refused r ≡ mapped nodes o → (f : Expr → A) → refused r ≡ mapped f o
 turned_down o r e f = refused_mapped nodes f o e

@@ -8,7 +8,7 @@ use crate::Arity;
 use crate::kind::{Binary, Leaf, Unary};
 use crate::tree::{Tree, Walk};
 
-// What is found of a tree, a node after its children.
+// What is found of a tree, a node after its children. A method of a node asks what `fits` says of its children; only `Tree::fold` calls it.
 pub trait Fold {
     type Found;
 

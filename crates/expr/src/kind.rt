@@ -98,7 +98,7 @@ impl Unary {
         }
     }
 
-    // The kind word.
+    // The kind word. A method and no `From`: a node has a second word.
     pub fn number(self) -> u64
         ensures { result ≡ unary_number self }
     {
@@ -142,7 +142,7 @@ impl Binary {
         }
     }
 
-    // The kind word.
+    // The kind word, by the name that `Unary` has for it.
     pub fn number(self) -> u64
         ensures { result ≡ binary_number self }
     {

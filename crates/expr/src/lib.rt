@@ -31,6 +31,7 @@ pub enum Arity {
 }
 
 impl Arity {
+    // As a number, by name: a cast of the enum would leave it to the order of the cases.
     pub fn children(self) -> usize
         ensures { result ≡ children_of self }
     {
@@ -57,12 +58,13 @@ pub fn arity_of(kind: u64) -> Result<Arity, Refusal>
 }
 
 // Whether the kind allows the operand, by a node's two words, which are not yet known to be one's.
+#[tactic(auto, using(crate::proofs::NodeLaws::operand_rules))]
 fn operand_ok(kind: u64, operand: u64) -> bool
     ensures { result ≡ operand_ok kind operand }
 {
     match kind {
-        0 => true,
-        1 | 9..=12 => operand <= 0xffff_ffff,
+        kind::CONSTANT => true,
+        kind::VARIABLE | kind::SHR..=kind::TRUNC => operand <= 0xffff_ffff,
         _ => operand == 0,
     }
 }
@@ -136,7 +138,7 @@ pub fn span(words: &[u64]) -> Result<usize, Refusal>
     if !word_count_ok(words.len()) {
         return Err(Refusal::WordCount);
     }
-    // how many subtrees are still to come
+    // how many subtrees are still to come; by places, since the answer is one
     let mut due: usize = 1;
     for at in (0..words.len()).step_by(2) {
         let arity = arity_of(words[at])?;
@@ -177,10 +179,7 @@ impl Fold for Variables {
 
     #[tactic(auto, unfolding(crate::specs::ExprUtils::has_var_dep_of))]
     fn leaf(&self, kind: Leaf) -> bool {
-        match kind {
-            Leaf::Constant(_) => false,
-            Leaf::Variable(_) => true,
-        }
+        matches!(kind, Leaf::Variable(_))
     }
 
     #[tactic(auto, unfolding(crate::specs::ExprUtils::has_var_dep_of))]

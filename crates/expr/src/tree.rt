@@ -76,10 +76,7 @@ impl<'a> Tree<'a> {
         ensures { option_of result ≡ constant_of (tree_of self.entry) }
     {
         let words = self.words;
-        if words[0] != kind::CONSTANT {
-            return None;
-        }
-        Some(words[1])
+        (words[0] == kind::CONSTANT).then_some(words[1])
     }
 
     // The operand, where it is a node of that kind.

@@ -22,10 +22,7 @@ use widths::{Uniform, VariableWidths, widths_of};
 pub fn is_supported(width: u32) -> bool
     ensures { result ≡ supported width }
 {
-    match width {
-        1..=64 => true,
-        _ => false,
-    }
+    matches!(width, 1..=64)
 }
 
 // A width of 1 to 64 bits.

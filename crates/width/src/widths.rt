@@ -47,6 +47,7 @@ impl VariableWidths<'_> {
     }
 }
 
+// The test of `Width::try_from`, with the refusal of a width in a tree, which carries it.
 #[tactic(auto, unfolding(crate::specs::Width::ranged))]
 fn ranged(width: u32) -> Result<u32, Refusal>
     ensures { outcome result ≡ ranged width }
