@@ -72,8 +72,7 @@ fn and_or(kind: Binary) -> usize
     ensures { result ≡ and_or kind }
 {
     match kind {
-        Binary::And => 1,
-        Binary::Or => 1,
+        Binary::And | Binary::Or => 1,
         _ => 0,
     }
 }
@@ -115,7 +114,8 @@ impl Fold for Counting {
     }
 }
 
-// What a node over two children without a site becomes; the right one is at `right`.
+// What a node over two children without a site becomes; the right one is at `right`. It takes the words, as both callers have no `Operands`: the
+// words are theirs to write over.
 #[tactic(auto, using(crate::proofs::SettleLaws::ready_tree))]
 fn two_rewrite(node: &[u64], right: usize, len: usize, width: Width) -> Option<Decision>
     requires { Ready width.bits node.now len × (arity_of (get_or node.now 0 0) ≡ accepted 2) × (right ≡ 2 + length (encode (left_of (tree_at node.now)))) }
@@ -161,7 +161,8 @@ fn settle_two(node: &mut [u64], right: usize, len: usize, width: Width) -> Settl
     rewrite_two(node, decided, len, width)
 }
 
-// A node whose left child has no site and ends at `at`, and whose right child is a Not over the operand at `right`.
+// A node whose left child has no site and ends at `at`, and whose right child is a Not over the operand at `right`. The places are given to this
+// function alone, so that no struct holds them.
 #[cycle(rewrite_one_settle_de_morgan_settle_one_settle_operand_settle_second)]
 fn settle_second(node: &mut [u64], at: usize, right: usize, len: usize, width: Width) -> Settled
     requires { HalfTurned width.bits node.old at right len }

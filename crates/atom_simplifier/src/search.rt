@@ -40,7 +40,8 @@ fn at_root<'a>(root: Tree<'a>, decided: Option<Decision>) -> ControlFlow<Site<'a
     }
 }
 
-// The child whose words begin at `from`. The path to a site is written once it is found, from its last byte to its first.
+// The child whose words begin at `from`. The path to a site is written once it is found, from its last byte to its first. No struct holds what is
+// handed on: each level lends only a part of the path, as at `chain::Settled`, and `from` and `byte` are given to this function alone.
 #[cycle(find_first_certifiable_atom_rewrite_at_find_from_right_find_in_child)]
 fn find_in_child<'a>(
     walk: Walk<'a>,
