@@ -242,8 +242,8 @@ impl BinaryFold {
     }
 
     // `(x op d) op c`, or `(d op x) op c`, as the fold of x and `d op c`; `lhs` is the inner node. The Rust calls `try_fold_binary` again here,
-    // whose right operand is then that constant. No `map` and `or_else`: tried, either closure is then one more member of the cycle, with clauses and a
-    // measure of its own.
+    // whose right operand is then that constant. No `map` and `or_else`: tried, each closure
+    // is then one more member of the cycle, with clauses and a measure of its own.
     #[cycle(fold_constants_reassociate_constant)]
     #[tactic(auto, using(crate::proofs::ReassociateLaws::other_kind))]
     fn reassociate_constant(self, lhs: Placed<'_>, rhs_const: u64) -> Option<Decision>

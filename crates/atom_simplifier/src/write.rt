@@ -27,7 +27,7 @@ pub(crate) fn put_node(kind: u64, operand: u64, out: &mut [u64])
     out[1] = operand;
 }
 
-// And for Or, Or for And: by the kind word, as it is written over another.
+// And for Or, Or for And: by the kind word, as it is written over another; `Bitwise::dual` is asked of a kind that is known already.
 pub(crate) fn dual(kind: u64) -> u64
     ensures { result ≡ dual_number kind }
 {
