@@ -83,7 +83,7 @@ pub(crate) fn is_constant(tree: Tree<'_>, c: u64, width: Width) -> bool
 }
 
 // Trees are compared as the width has it; the candidates' `is_not_of` compares them raw. No `is_some_and` here and in `contains_operand`: tried,
-// 'no proof' of the result, as the closure takes trees.
+// 'no proof' that what it gives is the definition's answer.
 #[inline]
 #[tactic(auto, using(crate::proofs::OperandLaws::not_tests))]
 fn is_not_of(outer: Tree<'_>, inner: Tree<'_>, width: Width) -> bool
