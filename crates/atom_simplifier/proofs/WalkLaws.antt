@@ -5,12 +5,10 @@ use Prim.Native.Nat.{ℕ, ◌+◌, ◌≤◌}
 use native.Mathlib.Omega.{arith}
 use lib.ListN.{length, drop, get_or, length-append}
 use lib.Seq.{drop-drop}
-use Rattle.expr.specs.declared.Arity.{Arity}
 use Rattle.expr.specs.declared.Arity.TheVariants as arity
 use Rattle.expr.specs.Outcome.{accepted}
 use Rattle.expr.specs.Expr.{Expr, unary, binary, encode}
 use Rattle.expr.specs.Parse.{arity_of}
-use Rattle.expr.specs.Answers.{children_of}
 use Rattle.expr.specs.Parts.{tail}
 use Rattle.expr.specs.TailLaws.{tail_drop}
 use Rattle.expr.specs.Front.{Front, Leads, tree_at}

@@ -7,7 +7,8 @@ use Rattle.std.proofs.Math.Option.{Option, none, some}
 use Rattle.expr.specs.declared.kind.Binary.{Binary}
 use Rattle.expr.specs.declared.kind.Binary.TheVariants.{And, Or}
 use Rattle.expr.specs.Expr.{Expr, binary, binary_number, encode}
-use Rattle.expr.specs.Parse.{operands_ok}
+use Rattle.expr.specs.Outcome.{accepted}
+use Rattle.expr.specs.Parse.{arity_of, operands_ok}
 use Rattle.expr.specs.Parts.{tail, part, Laid}
 use Rattle.expr.specs.Front.{Front, Starts, Whole, tree_at}
 use Rattle.expr.specs.Optional.{◌equals_some◌}
@@ -179,6 +180,10 @@ pub record Replaceable (ws : List ℕ) (len : ℕ) (d : Decision) : Type 0 where
   pub whole : Whole (part 0 len ws)
   pub writable : Writable (part 0 len ws) d len
 
+-- the words begin with those of a node over so many children
+abbrev pub HasArity : List ℕ → ℕ → Type 0
+HasArity ws n = arity_of (get_or ws 0 0) ≡ accepted n
+
 -- ---- the search
 
 -- the answer for a root whose children have no site
@@ -285,6 +290,10 @@ pub record EndsAt (w : ℕ) (t : Expr) (reach : ℕ) (before after : List ℕ) (
 -- the same for the node that is half turned
 pub record HalfEnds (w : ℕ) (before : List ℕ) (at right len : ℕ) (after : List ℕ) (n count : ℕ) : Type 0 where
   pub ends : (k : Binary) (l o : Expr) → Half w k l o before at right len → EndsAt w (binary k l (not o)) len before after n count
+
+-- the work has room for the words of the tree that the words ws begin with
+abbrev pub HasRoom : List ℕ → List ℕ → Type 0
+HasRoom ws work = length (encode (tree_at ws)) ≤ length work
 
 -- the words begin with a node's own two, as they are in the input
 pub record Loaded (w : ℕ) (ws work : List ℕ) : Type 0 where

@@ -3,9 +3,8 @@
 // a rewrite only what it has made is looked at again. The rewrites are those of the list, in its order, but that De Morgan's law and the double
 // Not that it makes are one move of words: the work never holds more nodes than the input has.
 ghost use Rattle.std.specs.Prelude.{◌≡◌, ◌+◌, ◌≤◌, ◌<◌, length, get_or, replicate};
-ghost use Rattle.expr.specs.Outcome.{accepted, mapped};
+ghost use Rattle.expr.specs.Outcome.{mapped};
 ghost use Rattle.expr.specs.Expr.{encode};
-ghost use Rattle.expr.specs.Parse.{arity_of};
 ghost use Rattle.expr.specs.Parts.{tail, part, Laid};
 ghost use Rattle.expr.specs.Front.{tree_at, left_of};
 ghost use Rattle.rewriting.specs.AtomSimplifier.{not, local_rewrite};
@@ -15,7 +14,7 @@ ghost use Rattle.expr.specs.Answers.{outcome};
 ghost use Rattle.atom_simplifier.specs.Answers.{end_numbers};
 ghost use Rattle.atom_simplifier.specs.PairsLaws.{few_pairs};
 ghost use Rattle.atom_simplifier.specs.Chained.{ChainGives};
-ghost use Rattle.atom_simplifier.specs.Promises.{Decides, counted, Few, loaded, Ready, Apart, Turnable, Turned, HalfTurned, HalfEnds, EndsAt, Loaded, HasLeft, IsBuilt, RightBuilt};
+ghost use Rattle.atom_simplifier.specs.Promises.{Decides, counted, Few, loaded, Ready, Apart, Turnable, Turned, HalfTurned, HalfEnds, EndsAt, Loaded, HasLeft, IsBuilt, RightBuilt, HasArity, HasRoom};
 
 use crate::local::Decision;
 use crate::operands::Operands;
@@ -72,8 +71,7 @@ fn and_or(kind: Binary) -> usize
     ensures { result ≡ and_or kind }
 {
     match kind {
-        Binary::And => 1,
-        Binary::Or => 1,
+        Binary::And | Binary::Or => 1,
         _ => 0,
     }
 }
@@ -115,10 +113,11 @@ impl Fold for Counting {
     }
 }
 
-// What a node over two children without a site becomes; the right one is at `right`.
+// What a node over two children without a site becomes; the right one is at `right`. It takes the words, as both callers have no `Operands`: the
+// words are theirs to write over.
 #[tactic(auto, using(crate::proofs::SettleLaws::ready_tree))]
 fn two_rewrite(node: &[u64], right: usize, len: usize, width: Width) -> Option<Decision>
-    requires { Ready width.bits node.now len × (arity_of (get_or node.now 0 0) ≡ accepted 2) × (right ≡ 2 + length (encode (left_of (tree_at node.now)))) }
+    requires { Ready width.bits node.now len × HasArity node.now 2 × (right ≡ 2 + length (encode (left_of (tree_at node.now)))) }
     ensures { Decides (part 0 len node.now) result (local_rewrite width.bits (tree_at (part 0 len node.now))) }
 {
     let node = Tree {
@@ -129,7 +128,7 @@ fn two_rewrite(node: &[u64], right: usize, len: usize, width: Width) -> Option<D
 
 // A node over two children without a site, with what was decided about it. A fold may make a node whose root has a site again.
 fn rewrite_two(node: &mut [u64], decided: Option<Decision>, len: usize, width: Width) -> Settled
-    requires { Ready width.bits node.old len × (arity_of (get_or node.old 0 0) ≡ accepted 2) × Decides (part 0 len node.old) decided (local_rewrite width.bits (tree_at (part 0 len node.old))) }
+    requires { Ready width.bits node.old len × HasArity node.old 2 × Decides (part 0 len node.old) decided (local_rewrite width.bits (tree_at (part 0 len node.old))) }
     ensures { EndsAt width.bits (tree_at node.old) len node.old node.new result.len result.count }
 {
     let Some(rewrite) = decided else {
@@ -154,14 +153,15 @@ fn rewrite_two(node: &mut [u64], decided: Option<Decision>, len: usize, width: W
 
 // A node over two children without a site; the right one is at `right`.
 fn settle_two(node: &mut [u64], right: usize, len: usize, width: Width) -> Settled
-    requires { Ready width.bits node.old len × (arity_of (get_or node.old 0 0) ≡ accepted 2) × (right ≡ 2 + length (encode (left_of (tree_at node.old)))) }
+    requires { Ready width.bits node.old len × HasArity node.old 2 × (right ≡ 2 + length (encode (left_of (tree_at node.old)))) }
     ensures { EndsAt width.bits (tree_at node.old) len node.old node.new result.len result.count }
 {
     let decided = two_rewrite(node, right, len, width);
     rewrite_two(node, decided, len, width)
 }
 
-// A node whose left child has no site and ends at `at`, and whose right child is a Not over the operand at `right`.
+// A node whose left child has no site and ends at `at`, and whose right child is a Not over the operand at `right`. The places are given to this
+// function alone, so that no struct holds them.
 #[cycle(rewrite_one_settle_de_morgan_settle_one_settle_operand_settle_second)]
 fn settle_second(node: &mut [u64], at: usize, right: usize, len: usize, width: Width) -> Settled
     requires { HalfTurned width.bits node.old at right len }
@@ -202,7 +202,7 @@ fn settle_de_morgan(node: &mut [u64], right: usize, len: usize, width: Width) ->
 // A node over one child without a site, with what was decided about it.
 #[cycle(rewrite_one_settle_de_morgan_settle_one_settle_operand_settle_second)]
 fn rewrite_one(node: &mut [u64], decided: Option<Decision>, len: usize, width: Width) -> Settled
-    requires { Ready width.bits node.old len × (arity_of (get_or node.old 0 0) ≡ accepted 1) × Decides (part 0 len node.old) decided (local_rewrite width.bits (tree_at (part 0 len node.old))) }
+    requires { Ready width.bits node.old len × HasArity node.old 1 × Decides (part 0 len node.old) decided (local_rewrite width.bits (tree_at (part 0 len node.old))) }
     ensures { EndsAt width.bits (tree_at node.old) len node.old node.new result.len result.count }
 {
     let Some(rewrite) = decided else {
@@ -220,7 +220,7 @@ fn rewrite_one(node: &mut [u64], decided: Option<Decision>, len: usize, width: W
 // A node over one child without a site.
 #[cycle(rewrite_one_settle_de_morgan_settle_one_settle_operand_settle_second)]
 fn settle_one(node: &mut [u64], len: usize, width: Width) -> Settled
-    requires { Ready width.bits node.old len × (arity_of (get_or node.old 0 0) ≡ accepted 1) }
+    requires { Ready width.bits node.old len × HasArity node.old 1 }
     ensures { EndsAt width.bits (tree_at node.old) len node.old node.new result.len result.count }
 {
     let tree = Tree {
@@ -263,7 +263,7 @@ fn load(ws: &[u64], width: Width, work: &mut [u64])
 // A node over one child, whose own words stand in the work.
 #[cycle(build_build_one_build_right_build_two)]
 fn build_one(walk: Walk<'_>, width: Width, work: &mut [u64]) -> Built
-    requires { (arity_of (get_or walk.words.now 0 0) ≡ accepted 1) × Loaded width.bits walk.words.now work.old × (length (encode (tree_at walk.words.now)) ≤ length work.old) }
+    requires { HasArity walk.words.now 1 × Loaded width.bits walk.words.now work.old × HasRoom walk.words.now work.old }
     ensures { IsBuilt width.bits walk.entry.words.now work.old work.new result.read result.len result.count }
 {
     let ws = walk.words;
@@ -294,7 +294,7 @@ fn build_right(walk: Walk<'_>, width: Width, work: &mut [u64], at: usize) -> Bui
 // A node over two children, whose own words stand in the work.
 #[cycle(build_build_one_build_right_build_two)]
 fn build_two(walk: Walk<'_>, width: Width, work: &mut [u64]) -> Built
-    requires { (arity_of (get_or walk.words.now 0 0) ≡ accepted 2) × Loaded width.bits walk.words.now work.old × (length (encode (tree_at walk.words.now)) ≤ length work.old) }
+    requires { HasArity walk.words.now 2 × Loaded width.bits walk.words.now work.old × HasRoom walk.words.now work.old }
     ensures { IsBuilt width.bits walk.entry.words.now work.old work.new result.read result.len result.count }
 {
     let ws = walk.words;
@@ -311,7 +311,7 @@ fn build_two(walk: Walk<'_>, width: Width, work: &mut [u64]) -> Built
 // The end tree of the tree at the front of the words, at the front of the work.
 #[cycle(build_build_one_build_right_build_two)]
 fn build(walk: Walk<'_>, width: Width, work: &mut [u64]) -> Built
-    requires { (length (encode (tree_at walk.words.now)) ≤ length work.old) }
+    requires { HasRoom walk.words.now work.old }
     ensures { IsBuilt width.bits walk.entry.words.now work.old work.new result.read result.len result.count }
 {
     load(walk.words, width, work);

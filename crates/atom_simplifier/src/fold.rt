@@ -13,7 +13,7 @@ use expr::kind::{Binary, Unary};
 use expr::tree::Tree;
 use width::Width;
 
-// The kinds that are folded.
+// The kinds that are folded: with `Binary` each match on them would have an arm for three kinds that cannot be there.
 #[derive(Clone, Copy, PartialEq, Eq)]
 pub(crate) enum Bitwise {
     And,
@@ -58,7 +58,8 @@ impl From<Bitwise> for Binary {
     }
 }
 
-// The only place where a constant is read: its word as it stands, whatever the width.
+// The only place where a constant is read: its word as it stands, whatever the width. The width is given, although not used, as the
+// definition takes it: how a word counts at a width is decided here alone. So it is in `same_part`, `write::copy` and `chain::load`.
 fn constant_val(tree: Tree<'_>, width: Width) -> Option<u64>
     ensures { option_of result ≡ constant_val width.bits (tree_of tree.entry) }
 {
@@ -81,7 +82,8 @@ pub(crate) fn is_constant(tree: Tree<'_>, c: u64, width: Width) -> bool
     constant_val(tree, width) == Some(c)
 }
 
-// Trees are compared as the width has it; the candidates' `is_not_of` compares them raw.
+// Trees are compared as the width has it; the candidates' `is_not_of` compares them raw. No `is_some_and` here and in `contains_operand`: tried,
+// 'no proof' that what it gives is the definition's answer.
 #[inline]
 #[tactic(auto, using(crate::proofs::OperandLaws::not_tests))]
 fn is_not_of(outer: Tree<'_>, inner: Tree<'_>, width: Width) -> bool
@@ -232,6 +234,7 @@ impl BinaryFold {
         ensures { DecidesAt (number_of self.op) part.entry.at part.entry.tree.words.now (Some result) (some (try_fold_binary self.width.bits (bitwise_of self.op) (tree_of part.entry.tree) (constant (folded_word self.width.bits (bitwise_of self.op) d c)))) }
     {
         let folded = self.folded_word(d, c);
+        // no `unwrap_or_else`: tried, 'no proof of DecidesAt' for its result
         match self.reassociate_constant(part, folded) {
             Some(found) => found,
             None => self.constant_beside(part, folded),
@@ -239,7 +242,8 @@ impl BinaryFold {
     }
 
     // `(x op d) op c`, or `(d op x) op c`, as the fold of x and `d op c`; `lhs` is the inner node. The Rust calls `try_fold_binary` again here,
-    // whose right operand is then that constant.
+    // whose right operand is then that constant. No `map` and `or_else`: tried, each closure
+    // is then one more member of the cycle, with clauses and a measure of its own.
     #[cycle(fold_constants_reassociate_constant)]
     #[tactic(auto, using(crate::proofs::ReassociateLaws::other_kind))]
     fn reassociate_constant(self, lhs: Placed<'_>, rhs_const: u64) -> Option<Decision>
@@ -292,7 +296,8 @@ impl NodeFold<'_> {
     }
 
     // The fold, where it gives another tree: reassociation with the right operand's constant, or else with the left one's, or else the arms. Such
-    // a tree has fewer nodes (ShapeLaws, `reassociated_less`), so that the two are not compared.
+    // a tree has fewer nodes (ShapeLaws, `reassociated_less`), so that the two are not compared. No `or_else`: tried, no proof of `Decides` for its
+    // result.
     #[tactic(auto, using(crate::proofs::NodeFoldLaws::node_fold))]
     pub(crate) fn try_fold_binary(self) -> Option<Decision>
         ensures { Decides self.entry.operands.node.words.now result (fold_rewrite self.entry.by.width.bits (bitwise_of self.entry.by.op) (left_of (tree_of self.entry.operands.node)) (right_of (tree_of self.entry.operands.node))) }

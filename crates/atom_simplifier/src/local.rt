@@ -81,6 +81,7 @@ impl NodeFold<'_> {
 pub(crate) fn binary_rewrite(operands: Operands<'_>, width: Width) -> Option<Decision>
     ensures { Decides operands.entry.node.words.now result (local_rewrite width.bits (tree_of operands.entry.node)) }
 {
+    // by the kind word, not by a `Binary`: the search and the chain know a node by its words alone
     let op = Bitwise::of(operands.node.words[0])?;
     let by = BinaryFold { op, width };
     NodeFold { by, operands }.rewrite()

@@ -42,6 +42,7 @@ impl<'a> Placed<'a> {
 }
 
 // A node over two children, and the place of the right one's words.
+// Promises' `HasArity` cannot be asked for here: Promises imports `Placed`, and that is an import cycle.
 #[derive(Clone, Copy)]
 pub(crate) struct Operands<'a> {
     pub(crate) node: Tree<'a>,

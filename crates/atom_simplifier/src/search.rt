@@ -1,14 +1,12 @@
 // The first site of a tree: `find_first_certifiable_atom_rewrite_at`. Each node is visited once, children before parent and left before
 // right, and its rewrite is decided only where its children have none.
 ghost use Rattle.std.specs.Prelude.{◌≡◌, ◌+◌, ◌≤◌, length, get_or};
-ghost use Rattle.expr.specs.Outcome.{accepted};
 ghost use Rattle.expr.specs.Expr.{encode, depth};
-ghost use Rattle.expr.specs.Parse.{arity_of};
 ghost use Rattle.expr.specs.Parts.{tail};
 ghost use Rattle.expr.specs.Front.{Leads, tree_at};
 ghost use Rattle.expr.specs.Optional.{map, ◌or_else◌};
 ghost use Rattle.rewriting.specs.AtomSimplifier.{here, below, local_rewrite, first_site};
-ghost use Rattle.atom_simplifier.specs.Promises.{at_root, Searched};
+ghost use Rattle.atom_simplifier.specs.Promises.{HasArity, at_root, Searched};
 
 use crate::local;
 use crate::local::Decision;
@@ -40,7 +38,8 @@ fn at_root<'a>(root: Tree<'a>, decided: Option<Decision>) -> ControlFlow<Site<'a
     }
 }
 
-// The child whose words begin at `from`. The path to a site is written once it is found, from its last byte to its first.
+// The child whose words begin at `from`. The path to a site is written once it is found, from its last byte to its first. No struct holds what is
+// handed on: each level lends only a part of the path, as at `chain::Settled`, and `from` and `byte` are given to this function alone.
 #[cycle(find_first_certifiable_atom_rewrite_at_find_from_right_find_in_child)]
 fn find_in_child<'a>(
     walk: Walk<'a>,
@@ -74,7 +73,7 @@ fn find_from_right<'a>(
     width: Width,
     path: &mut [u8],
 ) -> ControlFlow<Site<'a>, usize>
-    requires { (arity_of (get_or walk.words.now 0 0) ≡ accepted 2) × (right ≡ 2 + length (encode (tree_at (tail 2 walk.words.now)))) × (depth (tree_at walk.words.now) ≤ length path.old + 1) }
+    requires { HasArity walk.words.now 2 × (right ≡ 2 + length (encode (tree_at (tail 2 walk.words.now)))) × (depth (tree_at walk.words.now) ≤ length path.old + 1) }
     ensures { Searched (map (below 1) (first_site width.bits (tree_at (tail right walk.entry.words.now))) or_else map here (local_rewrite width.bits (tree_at walk.entry.words.now))) (length (encode (tree_at walk.entry.words.now))) path.old path.new result }
 {
     let n = find_in_child(walk, right, 1, width, path)?;

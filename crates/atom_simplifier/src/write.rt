@@ -17,6 +17,8 @@ fn copy(part: &[u64], width: Width, out: &mut [u64])
     expr::copy_words(part, out);
 }
 
+// A node's own two words. Its kind is a word, here and in `write_join`, as it mostly comes from words: those of the input or of the node that is
+// rewritten.
 pub(crate) fn put_node(kind: u64, operand: u64, out: &mut [u64])
     requires { 2 ≤ length out.old }
     ensures { Laid out.old out.new (kind ∷ operand ∷ []) }
@@ -25,7 +27,7 @@ pub(crate) fn put_node(kind: u64, operand: u64, out: &mut [u64])
     out[1] = operand;
 }
 
-// And for Or, Or for And: by the kind word, as it is written over another.
+// And for Or, Or for And: by the kind word, as it is written over another; `Bitwise::dual` is asked of a kind that is known already.
 pub(crate) fn dual(kind: u64) -> u64
     ensures { result ≡ dual_number kind }
 {
@@ -36,7 +38,7 @@ pub(crate) fn dual(kind: u64) -> u64
     }
 }
 
-// A node of the kind over the part and the constant c.
+// A node of the kind over the part and the constant c. A struct of its parameters would be made and taken apart in one call.
 fn write_join(kind: u64, part: &[u64], c: u64, width: Width, out: &mut [u64])
     requires { 4 + length part.now ≤ length out.old }
     ensures { Laid out.old out.new (((kind ∷ 0 ∷ []) ++ copied width.bits part.now) ++ (0 ∷ c ∷ [])) }
@@ -120,7 +122,8 @@ fn join_down(node: &mut [u64], at: usize, len: usize, c: u64)
 }
 
 // Writes what the decision makes of the node of `len` words in the place of the node, from its first word on, and answers how many words that
-// is. De Morgan's law, which needs more words than the node has, is not for it.
+// is. De Morgan's law, which needs more words than the node has, is not for it. `write_replacement` gives the same words, but from lent words that
+// stay: these are copied, and here they are moved, which takes no second buffer.
 pub(crate) fn replace(node: &mut [u64], len: usize, local: Decision) -> usize
     requires { Replaceable node.old len local }
     ensures { Writes (part 0 len node.old) local node.old node.new result }
@@ -138,7 +141,7 @@ pub(crate) fn replace(node: &mut [u64], len: usize, local: Decision) -> usize
             join_down(node, at, n, c);
             4 + n
         }
-        // more words than the node has
+        // never: more words than the node has. A second enum without this decision would be made from the first one by the same match.
         Decision::DeMorgan(_) => len,
     }
 }
