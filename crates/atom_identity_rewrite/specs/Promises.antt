@@ -33,7 +33,7 @@ use Rattle.atom_identity_rewrite.specs.declared.reading.Roles.{Roles}
 
 -- the test of a factor beside an Or
 abbrev pub factor_of : Factor → Expr → Bool
-factor_of (factor.Two w) t = is_masked w 2 t
+factor_of (factor.Two w) t = is_masked w.bits 2 t
 factor_of factor.Constant t = is_constant_node t
 
 -- ---- candidates

@@ -14,6 +14,7 @@ use crate::reading::Roles;
 use crate::{Tag, addends, candidate, reading};
 use expr::kind::{Binary, Unary};
 use expr::tree::Tree;
+use width::Width;
 
 // ---- tag 1
 
@@ -73,15 +74,12 @@ fn xor_of_or_and<'a>(or_side: Tree<'a>, and_side: Tree<'a>) -> Option<Candidate<
 {
     let (a, b) = or_side.operands(Binary::Or)?;
     let (x, y) = and_side.operands(Binary::And)?;
-    if exprs_equal_as_unordered_pair(a, b, x, y) {
-        return Some(Candidate {
-            kind: Binary::Xor,
-            first: a,
-            negate: false,
-            second: b,
-        });
-    }
-    None
+    exprs_equal_as_unordered_pair(a, b, x, y).then_some(Candidate {
+        kind: Binary::Xor,
+        first: a,
+        negate: false,
+        second: b,
+    })
 }
 
 // ---- tag 3
@@ -142,9 +140,9 @@ fn beside_not_of<'a>(a: Tree<'a>, l: Tree<'a>, r: Tree<'a>) -> Option<Tree<'a>>
 #[tactic(auto, using(crate::proofs::ReadLaws::role_reads))]
 pub(crate) fn match_and_via_not_or_plus_a_plus_one<'a>(
     all: &Addends<'a>,
-    width: u32,
+    width: Width,
 ) -> Option<Candidate<'a>>
-    ensures { made result ≡ match_and_via_not_or_plus_a_plus_one width (flatten_addends (tree_of all.now.node)) }
+    ensures { made result ≡ match_and_via_not_or_plus_a_plus_one width.bits (flatten_addends (tree_of all.now.node)) }
 {
     if all.count != 3 {
         return None;
@@ -173,8 +171,8 @@ fn and_of_roles<'a>(roles: Roles<'a>) -> Option<Candidate<'a>>
 // ---- tag 5
 
 #[tactic(auto, using(crate::proofs::ReadLaws::role_reads))]
-pub(crate) fn match_xor_via_ornot_flat<'a>(all: &Addends<'a>, width: u32) -> Option<Candidate<'a>>
-    ensures { made result ≡ match_xor_via_ornot_flat width (flatten_addends (tree_of all.now.node)) }
+pub(crate) fn match_xor_via_ornot_flat<'a>(all: &Addends<'a>, width: Width) -> Option<Candidate<'a>>
+    ensures { made result ≡ match_xor_via_ornot_flat width.bits (flatten_addends (tree_of all.now.node)) }
 {
     if all.count != 4 {
         return None;
@@ -205,15 +203,13 @@ fn xor_of_roles<'a>(roles: Roles<'a>) -> Option<Candidate<'a>>
 fn xor_of_or_not<'a>(l: Tree<'a>, r: Tree<'a>, a: Tree<'a>, b: Tree<'a>) -> Option<Candidate<'a>>
     ensures { made result ≡ xor_of_or_not (tree_of l.entry) (tree_of r.entry) (tree_of a.entry) (tree_of b.entry) }
 {
-    if (l.expr_eq(a) && is_not_of(r, b)) || (r.expr_eq(a) && is_not_of(l, b)) {
-        return Some(Candidate {
-            kind: Binary::Xor,
-            first: a,
-            negate: false,
-            second: b,
-        });
-    }
-    None
+    let found = (l.expr_eq(a) && is_not_of(r, b)) || (r.expr_eq(a) && is_not_of(l, b));
+    found.then_some(Candidate {
+        kind: Binary::Xor,
+        first: a,
+        negate: false,
+        second: b,
+    })
 }
 
 // ---- tags 6 and 7

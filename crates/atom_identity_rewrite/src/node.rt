@@ -9,11 +9,12 @@ ghost use Rattle.atom_identity_rewrite.specs.Promises.{factor_of};
 
 use expr::kind::{Binary, Unary};
 use expr::tree::Tree;
+use width::Width;
 
 // The factor beside an Or: 2 under the mask of the width for tag 5, any Constant for tag 7.
 #[derive(Clone, Copy)]
 pub(crate) enum Factor {
-    Two(u32),
+    Two(Width),
     Constant,
 }
 
@@ -30,10 +31,10 @@ pub(crate) fn is_not_of(tree: Tree<'_>, inner: Tree<'_>) -> bool
 
 // Whether the tree is a Constant that is n under the mask of the width.
 #[tactic(auto, using(crate::proofs::NodeLaws::masked_none, crate::proofs::NodeLaws::masked_some))]
-pub(crate) fn is_masked(tree: Tree<'_>, n: u64, width: u32) -> bool
-    ensures { result ≡ is_masked width n (tree_of tree.entry) }
+pub(crate) fn is_masked(tree: Tree<'_>, n: u64, width: Width) -> bool
+    ensures { result ≡ is_masked width.bits n (tree_of tree.entry) }
 {
-    tree.constant().is_some_and(|c| arith::trunc(c, width) == n)
+    tree.constant().is_some_and(|c| arith::trunc(c, width.bits) == n)
 }
 
 // Whether the tree is the factor that is looked for beside an Or.
