@@ -51,6 +51,10 @@ abbrev pub made : Option Candidate → option.Option Expr
 made None = none
 made (Some c) = some (candidate_tree c)
 
+-- the answer for a and b in this order, else in the other
+pub record EitherOrder (answer : Tree → Tree → Option Candidate → Type 0) (a b : Tree) (r : Option Candidate) : Type 0 where
+  pub is : (f : Expr → Expr → option.Option Expr) → ((x y : Tree) (o : Option Candidate) → answer x y o → made o ≡ f (tree_of x) (tree_of y)) → made r ≡ (f (tree_of a) (tree_of b) or_else f (tree_of b) (tree_of a))
+
 -- of the candidates cs the one of that number was found, or so many are left to pass over before it
 unfoldable pub OfferIs : ℕ → List def.Candidate → Offer → Type 0
 OfferIs number cs (offer.Left left) = left + length cs ≡ number

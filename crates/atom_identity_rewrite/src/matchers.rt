@@ -5,7 +5,7 @@ ghost use Rattle.expr.specs.declared.kind.Binary.TheVariants.{And, Xor};
 ghost use Rattle.expr.specs.Optional.{map};
 ghost use Rattle.expr.specs.Trees.{tree_of, optional_tree, optional_trees};
 ghost use Rattle.rewriting.specs.AtomIdentityRewrite.{operand_of_not, beside_not_of, xor_absorb_one, match_xor_and_absorb, same_unordered_pair, xor_of_or_and, match_xor_via_or_minus_and, and_of_or_not, match_and_via_not_or_minus_not, flatten_addends, match_and_via_not_or_plus_a_plus_one, match_xor_via_ornot_flat, match_binary_add_with_neg, lax_and_of, lax_xor_of, lax_and, lax_xor, each};
-ghost use Rattle.atom_identity_rewrite.specs.Promises.{made, OffersAll, AndOfRoles, XorOfRoles, xor_of_or_not};
+ghost use Rattle.atom_identity_rewrite.specs.Promises.{made, EitherOrder, OffersAll, AndOfRoles, XorOfRoles, xor_of_or_not};
 
 use crate::addends::Addends;
 use crate::candidate::{Candidate, Offer};
@@ -18,15 +18,12 @@ use width::Width;
 
 // ---- tag 1
 
-#[tactic(auto, unfolding(rewriting::specs::AtomIdentityRewrite::match_xor_and_absorb))]
+#[tactic(auto, using(crate::proofs::OrderLaws::both_orders), unfolding(rewriting::specs::AtomIdentityRewrite::match_xor_and_absorb))]
 pub(crate) fn match_xor_and_absorb<'a>(node: Tree<'a>) -> Option<Candidate<'a>>
     ensures { made result ≡ match_xor_and_absorb (tree_of node.entry) }
 {
     let (c0, c1) = node.operands(Binary::Xor)?;
-    if let Some(c) = xor_absorb_one(c0, c1) {
-        return Some(c);
-    }
-    xor_absorb_one(c1, c0)
+    either_order(c0, c1, xor_absorb_one)
 }
 
 #[tactic(auto, unfolding(rewriting::specs::AtomIdentityRewrite::xor_absorb_one, rewriting::specs::AtomIdentityRewrite::expr_eq))]
@@ -56,15 +53,12 @@ fn xor_absorb_one<'a>(x: Tree<'a>, and_node: Tree<'a>) -> Option<Candidate<'a>>
 // ---- tag 2
 
 // The Rust's `pick_or_and` is the kinds that `xor_of_or_and` asks for: an Or is no And, so that at most one of the two orders gives a tree.
-#[tactic(auto, unfolding(rewriting::specs::AtomIdentityRewrite::match_xor_via_or_minus_and))]
+#[tactic(auto, using(crate::proofs::OrderLaws::both_orders), unfolding(rewriting::specs::AtomIdentityRewrite::match_xor_via_or_minus_and))]
 pub(crate) fn match_xor_via_or_minus_and<'a>(node: Tree<'a>) -> Option<Candidate<'a>>
     ensures { made result ≡ match_xor_via_or_minus_and (tree_of node.entry) }
 {
     let (lhs, rhs) = match_binary_add_with_neg(node)?;
-    if let Some(c) = xor_of_or_and(lhs, rhs) {
-        return Some(c);
-    }
-    xor_of_or_and(rhs, lhs)
+    either_order(lhs, rhs, xor_of_or_and)
 }
 
 // The Xor of the operands that an Or and an And have in common.
@@ -86,15 +80,12 @@ fn xor_of_or_and<'a>(or_side: Tree<'a>, and_side: Tree<'a>) -> Option<Candidate<
 
 // The Rust's `pick_kind` and `pick_other` are the kinds that `and_of_or_not` asks for: an Or is no Not, so that at most one of the two orders
 // gives a tree.
-#[tactic(auto, unfolding(rewriting::specs::AtomIdentityRewrite::match_and_via_not_or_minus_not))]
+#[tactic(auto, using(crate::proofs::OrderLaws::both_orders), unfolding(rewriting::specs::AtomIdentityRewrite::match_and_via_not_or_minus_not))]
 pub(crate) fn match_and_via_not_or_minus_not<'a>(node: Tree<'a>) -> Option<Candidate<'a>>
     ensures { made result ≡ match_and_via_not_or_minus_not (tree_of node.entry) }
 {
     let (lhs, rhs) = match_binary_add_with_neg(node)?;
-    if let Some(c) = and_of_or_not(lhs, rhs) {
-        return Some(c);
-    }
-    and_of_or_not(rhs, lhs)
+    either_order(lhs, rhs, and_of_or_not)
 }
 
 // The And of a Not's operand and what stands beside this Not in an Or.
@@ -277,6 +268,22 @@ fn xor_of_not<'a>(not_side: Tree<'a>, other: Tree<'a>) -> Option<Candidate<'a>>
 }
 
 // ---- helpers
+
+// The answer for a and b in this order, else in the other.
+#[tactic(auto, using(crate::proofs::OrderLaws::first_order, crate::proofs::OrderLaws::second_order))]
+fn either_order<'a, F: Fn(Tree<'a>, Tree<'a>) -> Option<Candidate<'a>>>(
+    a: Tree<'a>,
+    b: Tree<'a>,
+    f: F,
+) -> Option<Candidate<'a>>
+    requires { F.IsAlwaysCallable f }
+    ensures { EitherOrder (F.post f) a.entry b.entry result }
+{
+    if let Some(c) = f(a, b) {
+        return Some(c);
+    }
+    f(b, a)
+}
 
 // X and Y of `Neg Y + X` or `X + Neg Y`; the left operand is tested first.
 #[tactic(auto, using(rewriting::specs::MatchLaws::neg_operand), unfolding(rewriting::specs::AtomIdentityRewrite::match_binary_add_with_neg))]

@@ -34,7 +34,8 @@ pub(crate) fn is_not_of(tree: Tree<'_>, inner: Tree<'_>) -> bool
 pub(crate) fn is_masked(tree: Tree<'_>, n: u64, width: Width) -> bool
     ensures { result ≡ is_masked width.bits n (tree_of tree.entry) }
 {
-    tree.constant().is_some_and(|c| arith::trunc(c, width.bits) == n)
+    tree.constant()
+        .is_some_and(|c| arith::trunc(c, width.bits) == n)
 }
 
 // Whether the tree is the factor that is looked for beside an Or.
