@@ -9,7 +9,8 @@ ghost use Rattle.atom_identity_rewrite.specs.Promises.{addend_of, placed_addend,
 use expr::kind;
 use expr::tree::Tree;
 
-// The place of an addend's subtree in the words of the sum, and whether it is subtracted.
+// The place of an addend's subtree in the words of the sum, and whether it is subtracted. Not a `SignedTree`: it is no plainer, as an array of those has
+// to begin with 256 copies of a tree that is no addend; a place has a default.
 #[derive(Clone, Copy, Default)]
 pub(crate) struct Addend {
     pub start: usize,
@@ -50,6 +51,7 @@ pub(crate) fn flatten_addends<'a>(node: Tree<'a>) -> Addends<'a>
     while due > 0 {
         let top = due - 1;
         let negated = signs[top];
+        // the kind word: a place in the words is no `Tree` before its span is known, and only an addend's is taken
         match words[start] {
             kind::ADD => {
                 // the left operand is next, the right one keeps the place

@@ -60,6 +60,7 @@ impl From<Tag> for u64 {
 #[derive(Clone, Copy, PartialEq, Eq)]
 pub enum Found {
     Candidate { tag: Tag, nodes: usize },
+    // neither `None` nor an `Err`: a caller that counts the candidates asks for it
     NoMore { count: usize },
 }
 
@@ -70,6 +71,7 @@ pub enum Found {
 fn offer_lax<'a>(all: &Addends<'a>, asked: Offer<'a>) -> Offer<'a>
     ensures { OffersList (lax_candidates (tree_of all.now.node)) asked.entry result }
 {
+    // here and in `offer_sum` the kind word: `operands` would take the span of a child, which nothing here reads
     if all.node.words[0] != kind::ADD {
         return asked;
     }

@@ -205,6 +205,9 @@ fn xor_of_or_not<'a>(l: Tree<'a>, r: Tree<'a>, a: Tree<'a>, b: Tree<'a>) -> Opti
 
 // ---- tags 6 and 7
 
+// The And and the Xor of each pair below differ in the order of the operands and in which Not comes first too, so that one function for both would
+// take those as well: no plainer.
+
 // The root is an Add; each addend that is an Or with a Not is offered as an And.
 #[tactic(auto, using(crate::proofs::ReadLaws::all_offered))]
 pub(crate) fn match_and_via_ornot_lax<'a>(all: &Addends<'a>, asked: Offer<'a>) -> Offer<'a>
@@ -279,6 +282,8 @@ fn either_order<'a, F: Fn(Tree<'a>, Tree<'a>) -> Option<Candidate<'a>>>(
     requires { F.IsAlwaysCallable f }
     ensures { EitherOrder (F.post f) a.entry b.entry result }
 {
+    // tried: `or_else`; the borrow checker does not cover a closure whose result names a lifetime that it does not capture, and `or` would try both
+    // orders in any case. `match_binary_add_with_neg` is of the same form
     if let Some(c) = f(a, b) {
         return Some(c);
     }

@@ -11,7 +11,8 @@ use expr::kind::{Binary, Unary};
 use expr::tree::Tree;
 use width::Width;
 
-// The factor beside an Or: 2 under the mask of the width for tag 5, any Constant for tag 7.
+// The factor beside an Or: 2 under the mask of the width for tag 5, any Constant for tag 7. Not an `impl Fn(Tree) -> bool`: no plainer, as each contract
+// would state what the closure answers, where it names the factor now.
 #[derive(Clone, Copy)]
 pub(crate) enum Factor {
     Two(Width),
@@ -53,6 +54,7 @@ fn is_factor(tree: Tree<'_>, factor: Factor) -> bool
 fn or_beside<'a>(tree: Tree<'a>, factor: Factor, other: Tree<'a>) -> Option<(Tree<'a>, Tree<'a>)>
     ensures { optional_trees result ≡ (if factor_of factor (tree_of tree.entry) then operands_of Or (tree_of other.entry) else none) }
 {
+    // not `then`: it would need `flatten`, and not `then_some`: the operands would be taken in any case
     if is_factor(tree, factor) {
         return other.operands(Binary::Or);
     }
@@ -65,6 +67,8 @@ pub(crate) fn or_in_product<'a>(tree: Tree<'a>, factor: Factor) -> Option<(Tree<
     ensures { optional_trees result ≡ or_in_product (factor_of factor) (tree_of tree.entry) }
 {
     let (l, r) = tree.operands(Binary::Mul)?;
+    // here and in `or_inside` tried: `or_else`; the borrow checker does not cover its closure, whose trees would stand at several lifetimes at once,
+    // and `or` takes both: 22 to 27 instructions more a call
     if let Some(sides) = or_beside(l, factor, r) {
         return Some(sides);
     }

@@ -94,6 +94,7 @@ pub(crate) fn lax_and<'a>(asked: Offer<'a>, a: SignedTree<'a>) -> Offer<'a>
     if a.negated {
         return asked;
     }
+    // here and in `lax_xor` tried: `map_or`; the borrow checker does not cover the closure, whose trees would stand at several lifetimes at once
     match a.tree.operands(Binary::Or) {
         Some((l, r)) => matchers::offer_ands(asked, l, r),
         None => asked,
