@@ -108,6 +108,7 @@ fn scan<'a, S, F: Fn(S, SignedTree<'a>) -> S>(
     requires calls { F.IsAlwaysCallable read }
     ensures { ReadAll sum.entry.words.now list.now (F.post read) start result }
 {
+    // tried: `fold`; what `signed_tree` requires of an addend did not prove in its closure, which would need clauses of its own: no plainer
     let mut state = start;
     for a in list {
         state = read(state, signed_tree(sum, *a));
