@@ -18,7 +18,7 @@ use Rattle.expr.specs.Parse.{parse}
 use Rattle.expr.specs.Room.{room_for, with_words}
 use Rattle.width.specs.Checked.{width_of_call}
 use Rattle.expr.specs.declared.refusal.Reason.{Reason}
-use Rattle.width.specs.CheckedLaws.{width_refused, checked_parse, roomy}
+use Rattle.width.specs.CheckedLaws.{given_width, width_refused, checked_parse, roomy}
 use Rattle.rewriting.specs.MatchLaws.{neg_number}
 use Rattle.rewriting.specs.AtomIdentityRewrite as def
 use Rattle.rewriting.specs.AtomIdentityRewrite.{to_list, match_xor_and_absorb, match_xor_via_or_minus_and, match_and_via_not_or_minus_not, flatten_addends, lax_and, lax_xor, each, is_add, tagged, lax_candidates, candidates}
@@ -202,12 +202,15 @@ module _ (ws : List ℕ) (w number room : ℕ) where
         answer_is : accepted (asked_for number (candidates w u)) ≡ candidate_at ws w number room
         answer_is = ap (mapped (λ v. asked_for number (candidates w v))) g ∙ call_is
 
-        module _ (r : Found) (before after : List ℕ) (h : Answers u w number r before after) where
+        module _ (r : Found) (before after : List ℕ) (h : Answers u b number r before after) where
+          at_width : Answers u w number r before after
+          at_width = subst (λ (v : ℕ). Answers u v number r before after) (given_width w b e) h
+
           pub answered : accepted (asked_of r) ≡ mapped told (candidate_at ws w number room)
-          answered = ap accepted h.answer ∙ ap (mapped told) answer_is
+          answered = ap accepted at_width.answer ∙ ap (mapped told) answer_is
 
           pub written : after ≡ lent_after candidate_words (candidate_at ws w number room) before
-          written = h.memory ∙ ap (λ (o : Outcome (Asked def.Candidate)). lent_after candidate_words o before) answer_is
+          written = at_width.memory ∙ ap (λ (o : Outcome (Asked def.Candidate)). lent_after candidate_words o before) answer_is
 
 -- the words of a tree with room
 pub holds_words : (ws : List ℕ) → Whole ws → (room : ℕ) (t : Expr) → accepted (tree_at ws) ≡ room_for (λ u. 2 * (nodes u + 0)) room t → length ws ≤ room

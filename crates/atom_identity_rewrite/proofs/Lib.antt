@@ -1,4 +1,5 @@
 pub mod NodeLaws
+pub mod OrderLaws
 pub mod OfferLaws
 pub mod AddendLaws
 pub mod ScanLaws

@@ -33,7 +33,7 @@ use Rattle.atom_identity_rewrite.specs.declared.reading.Roles.{Roles}
 
 -- the test of a factor beside an Or
 abbrev pub factor_of : Factor → Expr → Bool
-factor_of (factor.Two w) t = is_masked w 2 t
+factor_of (factor.Two w) t = is_masked w.bits 2 t
 factor_of factor.Constant t = is_constant_node t
 
 -- ---- candidates
@@ -50,6 +50,10 @@ candidate_tree c = binary c.kind (tree_of c.first) (second_tree c.negate (tree_o
 abbrev pub made : Option Candidate → option.Option Expr
 made None = none
 made (Some c) = some (candidate_tree c)
+
+-- the answer for a and b in this order, else in the other
+pub record EitherOrder (answer : Tree → Tree → Option Candidate → Type 0) (a b : Tree) (r : Option Candidate) : Type 0 where
+  pub is : (f : Expr → Expr → option.Option Expr) → ((x y : Tree) (o : Option Candidate) → answer x y o → made o ≡ f (tree_of x) (tree_of y)) → made r ≡ (f (tree_of a) (tree_of b) or_else f (tree_of b) (tree_of a))
 
 -- of the candidates cs the one of that number was found, or so many are left to pass over before it
 unfoldable pub OfferIs : ℕ → List def.Candidate → Offer → Type 0

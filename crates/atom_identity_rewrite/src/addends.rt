@@ -1,5 +1,5 @@
-// The addends of a sum. Memory is fixed: they are gathered in an array by value, which one function copies into a lent list and another reads.
-ghost use Rattle.std.specs.Prelude.{◌≡◌, ◌++◌, ◌≤◌, length, take, drop};
+// The addends of a sum. Memory is fixed: they are gathered in an array by value, and read from there.
+ghost use Rattle.std.specs.Prelude.{◌≡◌, ◌≤◌, length, take};
 ghost use Rattle.expr.specs.Front.{tree_at};
 ghost use Rattle.rewriting.specs.AtomIdentityRewrite.{flatten_addends};
 ghost use Rattle.atom_identity_rewrite.specs.Places.{AddendsAre};
@@ -9,7 +9,8 @@ ghost use Rattle.atom_identity_rewrite.specs.Promises.{addend_of, placed_addend,
 use expr::kind;
 use expr::tree::Tree;
 
-// The place of an addend's subtree in the words of the sum, and whether it is subtracted.
+// The place of an addend's subtree in the words of the sum, and whether it is subtracted. Not a `SignedTree`: it is no plainer, as an array of those has
+// to begin with 256 copies of a tree that is no addend; a place has a default.
 #[derive(Clone, Copy, Default)]
 pub(crate) struct Addend {
     pub start: usize,
@@ -50,6 +51,7 @@ pub(crate) fn flatten_addends<'a>(node: Tree<'a>) -> Addends<'a>
     while due > 0 {
         let top = due - 1;
         let negated = signs[top];
+        // the kind word: a place in the words is no `Tree` before its span is known, and only an addend's is taken
         match words[start] {
             kind::ADD => {
                 // the left operand is next, the right one keeps the place
@@ -78,15 +80,6 @@ pub(crate) fn flatten_addends<'a>(node: Tree<'a>) -> Addends<'a>
     Addends { node, list, count }
 }
 
-// The only function that fills the lent list: it copies the addends that are in use to its front.
-fn fill(out: &mut [Addend], all: &Addends<'_>)
-    requires { all.now.count ≤ length out.old }
-    ensures { out.new ≡ take all.now.count all.now.list ++ drop all.now.count out.old }
-{
-    let n = all.count;
-    out[0..n].copy_from_slice(&all.list[0..n]);
-}
-
 // The addend's own subtree.
 #[tactic(auto, using(crate::proofs::ScanLaws::places))]
 fn signed_tree<'a>(sum: Tree<'a>, a: Addend) -> SignedTree<'a>
@@ -103,7 +96,7 @@ fn signed_tree<'a>(sum: Tree<'a>, a: Addend) -> SignedTree<'a>
     }
 }
 
-// The only function that reads the lent list: it hands its addends to `read`, one after the other.
+// Hands the addends of the list to `read`, one after the other.
 #[tactic(auto, using(crate::proofs::ScanLaws::named_one, crate::proofs::ScanLaws::none_read, crate::proofs::ScanLaws::read_on))]
 fn scan<'a, S, F: Fn(S, SignedTree<'a>) -> S>(
     sum: Tree<'a>,
@@ -115,6 +108,7 @@ fn scan<'a, S, F: Fn(S, SignedTree<'a>) -> S>(
     requires calls { F.IsAlwaysCallable read }
     ensures { ReadAll sum.entry.words.now list.now (F.post read) start result }
 {
+    // tried: `fold`; what `signed_tree` requires of an addend did not prove in its closure, which would need clauses of its own: no plainer
     let mut state = start;
     for a in list {
         state = read(state, signed_tree(sum, *a));
@@ -122,7 +116,7 @@ fn scan<'a, S, F: Fn(S, SignedTree<'a>) -> S>(
     state
 }
 
-// What reading the addends makes of `start`. The list is lent to `fill` and then to `scan`.
+// What reading the addends makes of `start`.
 pub(crate) fn read_addends<'a, S, F: Fn(S, SignedTree<'a>) -> S>(
     all: &Addends<'a>,
     start: S,
@@ -131,8 +125,5 @@ pub(crate) fn read_addends<'a, S, F: Fn(S, SignedTree<'a>) -> S>(
     requires { F.IsAlwaysCallable read }
     ensures { Folded (F.post read) start (flatten_addends (tree_at all.now.node.words.now)) result }
 {
-    let n = all.count;
-    let mut list = [Addend::default(); 256];
-    fill(&mut list, all);
-    scan(all.node, &list[0..n], start, read)
+    scan(all.node, &all.list[..all.count], start, read)
 }

@@ -7,7 +7,8 @@ use crate::Tag;
 use expr::kind::Binary;
 use expr::tree::Tree;
 
-// And or Xor of two trees; where `negate`, of the first and a Not over the second.
+// And or Xor of two trees; where `negate`, of the first and a Not over the second. A flag, not an enum over the second: both cases hold one tree,
+// which one `put_second` writes.
 #[derive(Clone, Copy)]
 pub(crate) struct Candidate<'a> {
     pub kind: Binary,
@@ -17,7 +18,8 @@ pub(crate) struct Candidate<'a> {
 }
 
 // The candidate that is asked for, with its tag, or how many are left to pass over before it. Not an `Option`: where all are passed over, what is
-// left tells how many there are.
+// left tells how many there are. Not `ControlFlow<(Tag, Candidate), usize>`: tried, with `?`, and the proofs of `match_and_via_ornot_lax` and
+// `match_xor_via_ornot_lax` did not close, whose closures keep it over the addends.
 #[derive(Clone, Copy)]
 pub(crate) enum Offer<'a> {
     Left(usize),

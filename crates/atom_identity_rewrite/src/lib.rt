@@ -60,6 +60,7 @@ impl From<Tag> for u64 {
 #[derive(Clone, Copy, PartialEq, Eq)]
 pub enum Found {
     Candidate { tag: Tag, nodes: usize },
+    // neither `None` nor an `Err`: a caller that counts the candidates asks for it
     NoMore { count: usize },
 }
 
@@ -70,6 +71,7 @@ pub enum Found {
 fn offer_lax<'a>(all: &Addends<'a>, asked: Offer<'a>) -> Offer<'a>
     ensures { OffersList (lax_candidates (tree_of all.now.node)) asked.entry result }
 {
+    // here and in `offer_sum` the kind word: `operands` would take the span of a child, which nothing here reads
     if all.node.words[0] != kind::ADD {
         return asked;
     }
@@ -78,8 +80,8 @@ fn offer_lax<'a>(all: &Addends<'a>, asked: Offer<'a>) -> Offer<'a>
 }
 
 // Tags 4 to 7, of a sum.
-fn offer_addends<'a>(node: Tree<'a>, width: u32, asked: Offer<'a>) -> Offer<'a>
-    ensures { OffersList (sum_candidates width (tree_of node.entry)) asked.entry result }
+fn offer_addends<'a>(node: Tree<'a>, width: Width, asked: Offer<'a>) -> Offer<'a>
+    ensures { OffersList (sum_candidates width.bits (tree_of node.entry)) asked.entry result }
 {
     let all = addends::flatten_addends(node);
     let m = matchers::match_and_via_not_or_plus_a_plus_one(&all, width);
@@ -90,8 +92,8 @@ fn offer_addends<'a>(node: Tree<'a>, width: u32, asked: Offer<'a>) -> Offer<'a>
 }
 
 // Tags 4 to 7. The addends are not gathered where the candidate is found already, nor where the root is the only one.
-fn offer_sum<'a>(node: Tree<'a>, width: u32, asked: Offer<'a>) -> Offer<'a>
-    ensures { OffersList (sum_candidates width (tree_of node.entry)) asked.entry result }
+fn offer_sum<'a>(node: Tree<'a>, width: Width, asked: Offer<'a>) -> Offer<'a>
+    ensures { OffersList (sum_candidates width.bits (tree_of node.entry)) asked.entry result }
 {
     if let Offer::Found(_, _) = asked {
         return asked;
@@ -104,8 +106,8 @@ fn offer_sum<'a>(node: Tree<'a>, width: u32, asked: Offer<'a>) -> Offer<'a>
 }
 
 // The candidate of that number.
-fn find_candidate<'a>(node: Tree<'a>, width: u32, number: usize) -> Offer<'a>
-    ensures { Offered number (candidates width (tree_of node.entry)) result }
+fn find_candidate<'a>(node: Tree<'a>, width: Width, number: usize) -> Offer<'a>
+    ensures { Offered number (candidates width.bits (tree_of node.entry)) result }
 {
     let m = matchers::match_xor_and_absorb(node);
     let one = candidate::with_match(Offer::Left(number), Tag::Absorb, m);
@@ -119,9 +121,9 @@ fn find_candidate<'a>(node: Tree<'a>, width: u32, number: usize) -> Offer<'a>
 // ---- the call
 
 // Writes the candidate, once nothing is to be refused.
-fn hand_over(node: Tree<'_>, width: u32, number: usize, out: &mut [u64]) -> Found
+fn hand_over(node: Tree<'_>, width: Width, number: usize, out: &mut [u64]) -> Found
     requires { length node.words.now ≤ length out.old }
-    ensures { Answers (tree_of node.entry) width number result out.old out.new }
+    ensures { Answers (tree_of node.entry) width.bits number result out.old out.new }
 {
     match find_candidate(node, width, number) {
         Offer::Left(left) => Found::NoMore {
@@ -144,7 +146,7 @@ pub fn try_match_all(
 ) -> Result<Found, Refusal>
     ensures { (candidate_outcome result ≡ mapped told (candidate_at words.now width number (length out.old))) × (out.new ≡ lent_after candidate_words (candidate_at words.now width number (length out.old)) out.old) }
 {
-    Width::try_from(width)?;
+    let width = Width::try_from(width)?;
     let node = Tree::read(words)?.with_room(out.len(), 0)?;
     Ok(hand_over(node, width, number, out))
 }

@@ -5,7 +5,7 @@ ghost use Rattle.expr.specs.declared.kind.Binary.TheVariants.{And, Xor};
 ghost use Rattle.expr.specs.Optional.{map};
 ghost use Rattle.expr.specs.Trees.{tree_of, optional_tree, optional_trees};
 ghost use Rattle.rewriting.specs.AtomIdentityRewrite.{operand_of_not, beside_not_of, xor_absorb_one, match_xor_and_absorb, same_unordered_pair, xor_of_or_and, match_xor_via_or_minus_and, and_of_or_not, match_and_via_not_or_minus_not, flatten_addends, match_and_via_not_or_plus_a_plus_one, match_xor_via_ornot_flat, match_binary_add_with_neg, lax_and_of, lax_xor_of, lax_and, lax_xor, each};
-ghost use Rattle.atom_identity_rewrite.specs.Promises.{made, OffersAll, AndOfRoles, XorOfRoles, xor_of_or_not};
+ghost use Rattle.atom_identity_rewrite.specs.Promises.{made, EitherOrder, OffersAll, AndOfRoles, XorOfRoles, xor_of_or_not};
 
 use crate::addends::Addends;
 use crate::candidate::{Candidate, Offer};
@@ -14,18 +14,16 @@ use crate::reading::Roles;
 use crate::{Tag, addends, candidate, reading};
 use expr::kind::{Binary, Unary};
 use expr::tree::Tree;
+use width::Width;
 
 // ---- tag 1
 
-#[tactic(auto, unfolding(rewriting::specs::AtomIdentityRewrite::match_xor_and_absorb))]
+#[tactic(auto, using(crate::proofs::OrderLaws::both_orders), unfolding(rewriting::specs::AtomIdentityRewrite::match_xor_and_absorb))]
 pub(crate) fn match_xor_and_absorb<'a>(node: Tree<'a>) -> Option<Candidate<'a>>
     ensures { made result ≡ match_xor_and_absorb (tree_of node.entry) }
 {
     let (c0, c1) = node.operands(Binary::Xor)?;
-    if let Some(c) = xor_absorb_one(c0, c1) {
-        return Some(c);
-    }
-    xor_absorb_one(c1, c0)
+    either_order(c0, c1, xor_absorb_one)
 }
 
 #[tactic(auto, unfolding(rewriting::specs::AtomIdentityRewrite::xor_absorb_one, rewriting::specs::AtomIdentityRewrite::expr_eq))]
@@ -55,15 +53,12 @@ fn xor_absorb_one<'a>(x: Tree<'a>, and_node: Tree<'a>) -> Option<Candidate<'a>>
 // ---- tag 2
 
 // The Rust's `pick_or_and` is the kinds that `xor_of_or_and` asks for: an Or is no And, so that at most one of the two orders gives a tree.
-#[tactic(auto, unfolding(rewriting::specs::AtomIdentityRewrite::match_xor_via_or_minus_and))]
+#[tactic(auto, using(crate::proofs::OrderLaws::both_orders), unfolding(rewriting::specs::AtomIdentityRewrite::match_xor_via_or_minus_and))]
 pub(crate) fn match_xor_via_or_minus_and<'a>(node: Tree<'a>) -> Option<Candidate<'a>>
     ensures { made result ≡ match_xor_via_or_minus_and (tree_of node.entry) }
 {
     let (lhs, rhs) = match_binary_add_with_neg(node)?;
-    if let Some(c) = xor_of_or_and(lhs, rhs) {
-        return Some(c);
-    }
-    xor_of_or_and(rhs, lhs)
+    either_order(lhs, rhs, xor_of_or_and)
 }
 
 // The Xor of the operands that an Or and an And have in common.
@@ -73,30 +68,24 @@ fn xor_of_or_and<'a>(or_side: Tree<'a>, and_side: Tree<'a>) -> Option<Candidate<
 {
     let (a, b) = or_side.operands(Binary::Or)?;
     let (x, y) = and_side.operands(Binary::And)?;
-    if exprs_equal_as_unordered_pair(a, b, x, y) {
-        return Some(Candidate {
-            kind: Binary::Xor,
-            first: a,
-            negate: false,
-            second: b,
-        });
-    }
-    None
+    exprs_equal_as_unordered_pair(a, b, x, y).then_some(Candidate {
+        kind: Binary::Xor,
+        first: a,
+        negate: false,
+        second: b,
+    })
 }
 
 // ---- tag 3
 
 // The Rust's `pick_kind` and `pick_other` are the kinds that `and_of_or_not` asks for: an Or is no Not, so that at most one of the two orders
 // gives a tree.
-#[tactic(auto, unfolding(rewriting::specs::AtomIdentityRewrite::match_and_via_not_or_minus_not))]
+#[tactic(auto, using(crate::proofs::OrderLaws::both_orders), unfolding(rewriting::specs::AtomIdentityRewrite::match_and_via_not_or_minus_not))]
 pub(crate) fn match_and_via_not_or_minus_not<'a>(node: Tree<'a>) -> Option<Candidate<'a>>
     ensures { made result ≡ match_and_via_not_or_minus_not (tree_of node.entry) }
 {
     let (lhs, rhs) = match_binary_add_with_neg(node)?;
-    if let Some(c) = and_of_or_not(lhs, rhs) {
-        return Some(c);
-    }
-    and_of_or_not(rhs, lhs)
+    either_order(lhs, rhs, and_of_or_not)
 }
 
 // The And of a Not's operand and what stands beside this Not in an Or.
@@ -142,9 +131,9 @@ fn beside_not_of<'a>(a: Tree<'a>, l: Tree<'a>, r: Tree<'a>) -> Option<Tree<'a>>
 #[tactic(auto, using(crate::proofs::ReadLaws::role_reads))]
 pub(crate) fn match_and_via_not_or_plus_a_plus_one<'a>(
     all: &Addends<'a>,
-    width: u32,
+    width: Width,
 ) -> Option<Candidate<'a>>
-    ensures { made result ≡ match_and_via_not_or_plus_a_plus_one width (flatten_addends (tree_of all.now.node)) }
+    ensures { made result ≡ match_and_via_not_or_plus_a_plus_one width.bits (flatten_addends (tree_of all.now.node)) }
 {
     if all.count != 3 {
         return None;
@@ -173,8 +162,8 @@ fn and_of_roles<'a>(roles: Roles<'a>) -> Option<Candidate<'a>>
 // ---- tag 5
 
 #[tactic(auto, using(crate::proofs::ReadLaws::role_reads))]
-pub(crate) fn match_xor_via_ornot_flat<'a>(all: &Addends<'a>, width: u32) -> Option<Candidate<'a>>
-    ensures { made result ≡ match_xor_via_ornot_flat width (flatten_addends (tree_of all.now.node)) }
+pub(crate) fn match_xor_via_ornot_flat<'a>(all: &Addends<'a>, width: Width) -> Option<Candidate<'a>>
+    ensures { made result ≡ match_xor_via_ornot_flat width.bits (flatten_addends (tree_of all.now.node)) }
 {
     if all.count != 4 {
         return None;
@@ -205,18 +194,19 @@ fn xor_of_roles<'a>(roles: Roles<'a>) -> Option<Candidate<'a>>
 fn xor_of_or_not<'a>(l: Tree<'a>, r: Tree<'a>, a: Tree<'a>, b: Tree<'a>) -> Option<Candidate<'a>>
     ensures { made result ≡ xor_of_or_not (tree_of l.entry) (tree_of r.entry) (tree_of a.entry) (tree_of b.entry) }
 {
-    if (l.expr_eq(a) && is_not_of(r, b)) || (r.expr_eq(a) && is_not_of(l, b)) {
-        return Some(Candidate {
-            kind: Binary::Xor,
-            first: a,
-            negate: false,
-            second: b,
-        });
-    }
-    None
+    let found = (l.expr_eq(a) && is_not_of(r, b)) || (r.expr_eq(a) && is_not_of(l, b));
+    found.then_some(Candidate {
+        kind: Binary::Xor,
+        first: a,
+        negate: false,
+        second: b,
+    })
 }
 
 // ---- tags 6 and 7
+
+// The And and the Xor of each pair below differ in the order of the operands and in which Not comes first too, so that one function for both would
+// take those as well: no plainer.
 
 // The root is an Add; each addend that is an Or with a Not is offered as an And.
 #[tactic(auto, using(crate::proofs::ReadLaws::all_offered))]
@@ -281,6 +271,24 @@ fn xor_of_not<'a>(not_side: Tree<'a>, other: Tree<'a>) -> Option<Candidate<'a>>
 }
 
 // ---- helpers
+
+// The answer for a and b in this order, else in the other.
+#[tactic(auto, using(crate::proofs::OrderLaws::first_order, crate::proofs::OrderLaws::second_order))]
+fn either_order<'a, F: Fn(Tree<'a>, Tree<'a>) -> Option<Candidate<'a>>>(
+    a: Tree<'a>,
+    b: Tree<'a>,
+    f: F,
+) -> Option<Candidate<'a>>
+    requires { F.IsAlwaysCallable f }
+    ensures { EitherOrder (F.post f) a.entry b.entry result }
+{
+    // tried: `or_else`; the borrow checker does not cover a closure whose result names a lifetime that it does not capture, and `or` would try both
+    // orders in any case. `match_binary_add_with_neg` is of the same form
+    if let Some(c) = f(a, b) {
+        return Some(c);
+    }
+    f(b, a)
+}
 
 // X and Y of `Neg Y + X` or `X + Neg Y`; the left operand is tested first.
 #[tactic(auto, using(rewriting::specs::MatchLaws::neg_operand), unfolding(rewriting::specs::AtomIdentityRewrite::match_binary_add_with_neg))]

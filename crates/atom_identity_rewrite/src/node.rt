@@ -9,11 +9,13 @@ ghost use Rattle.atom_identity_rewrite.specs.Promises.{factor_of};
 
 use expr::kind::{Binary, Unary};
 use expr::tree::Tree;
+use width::Width;
 
-// The factor beside an Or: 2 under the mask of the width for tag 5, any Constant for tag 7.
+// The factor beside an Or: 2 under the mask of the width for tag 5, any Constant for tag 7. Not an `impl Fn(Tree) -> bool`: no plainer, as each contract
+// would state what the closure answers, where it names the factor now.
 #[derive(Clone, Copy)]
 pub(crate) enum Factor {
-    Two(u32),
+    Two(Width),
     Constant,
 }
 
@@ -30,10 +32,11 @@ pub(crate) fn is_not_of(tree: Tree<'_>, inner: Tree<'_>) -> bool
 
 // Whether the tree is a Constant that is n under the mask of the width.
 #[tactic(auto, using(crate::proofs::NodeLaws::masked_none, crate::proofs::NodeLaws::masked_some))]
-pub(crate) fn is_masked(tree: Tree<'_>, n: u64, width: u32) -> bool
-    ensures { result ≡ is_masked width n (tree_of tree.entry) }
+pub(crate) fn is_masked(tree: Tree<'_>, n: u64, width: Width) -> bool
+    ensures { result ≡ is_masked width.bits n (tree_of tree.entry) }
 {
-    tree.constant().is_some_and(|c| arith::trunc(c, width) == n)
+    tree.constant()
+        .is_some_and(|c| arith::trunc(c, width.bits) == n)
 }
 
 // Whether the tree is the factor that is looked for beside an Or.
@@ -51,6 +54,7 @@ fn is_factor(tree: Tree<'_>, factor: Factor) -> bool
 fn or_beside<'a>(tree: Tree<'a>, factor: Factor, other: Tree<'a>) -> Option<(Tree<'a>, Tree<'a>)>
     ensures { optional_trees result ≡ (if factor_of factor (tree_of tree.entry) then operands_of Or (tree_of other.entry) else none) }
 {
+    // not `then`: it would need `flatten`, and not `then_some`: the operands would be taken in any case
     if is_factor(tree, factor) {
         return other.operands(Binary::Or);
     }
@@ -63,6 +67,8 @@ pub(crate) fn or_in_product<'a>(tree: Tree<'a>, factor: Factor) -> Option<(Tree<
     ensures { optional_trees result ≡ or_in_product (factor_of factor) (tree_of tree.entry) }
 {
     let (l, r) = tree.operands(Binary::Mul)?;
+    // here and in `or_inside` tried: `or_else`; the borrow checker does not cover its closure, whose trees would stand at several lifetimes at once,
+    // and `or` takes both: 22 to 27 instructions more a call
     if let Some(sides) = or_beside(l, factor, r) {
         return Some(sides);
     }

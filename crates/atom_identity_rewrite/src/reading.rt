@@ -9,6 +9,7 @@ use crate::matchers;
 use crate::node::{Factor, is_masked, or_in_product, or_inside};
 use expr::kind::Binary;
 use expr::tree::Tree;
+use width::Width;
 
 // The roles of addends in tags 4 and 5: the constant, the Or by its operands, and of the others the last that is added and the last that is subtracted.
 #[derive(Clone, Copy, Default)]
@@ -63,8 +64,8 @@ fn sort<'a>(
 }
 
 // The roles with one addend more, as tag 4 reads it: the constant is 1, and the Or is the addend itself.
-pub(crate) fn sort_for_and<'a>(width: u32, roles: Roles<'a>, a: SignedTree<'a>) -> Roles<'a>
-    ensures { Sorts (as_one width) as_or (addend_of a.entry) roles.entry result }
+pub(crate) fn sort_for_and<'a>(width: Width, roles: Roles<'a>, a: SignedTree<'a>) -> Roles<'a>
+    ensures { Sorts (as_one width.bits) as_or (addend_of a.entry) roles.entry result }
 {
     let unit = is_masked(a.tree, 1, width);
     let or = a.tree.operands(Binary::Or);
@@ -72,8 +73,8 @@ pub(crate) fn sort_for_and<'a>(width: u32, roles: Roles<'a>, a: SignedTree<'a>) 
 }
 
 // As tag 5 reads it: the constant is -2, and the Or is that in -2 times an Or.
-pub(crate) fn sort_for_xor<'a>(width: u32, roles: Roles<'a>, a: SignedTree<'a>) -> Roles<'a>
-    ensures { Sorts (as_minus_two width) (as_minus_twice_or width) (addend_of a.entry) roles.entry result }
+pub(crate) fn sort_for_xor<'a>(width: Width, roles: Roles<'a>, a: SignedTree<'a>) -> Roles<'a>
+    ensures { Sorts (as_minus_two width.bits) (as_minus_twice_or width.bits) (addend_of a.entry) roles.entry result }
 {
     if !a.negated {
         return sort(roles, a, false, None);
@@ -93,6 +94,7 @@ pub(crate) fn lax_and<'a>(asked: Offer<'a>, a: SignedTree<'a>) -> Offer<'a>
     if a.negated {
         return asked;
     }
+    // here and in `lax_xor` tried: `map_or`; the borrow checker does not cover the closure, whose trees would stand at several lifetimes at once
     match a.tree.operands(Binary::Or) {
         Some((l, r)) => matchers::offer_ands(asked, l, r),
         None => asked,

@@ -23,7 +23,8 @@ fn put_second(negate: bool, part: Tree<'_>, out: &mut [u64]) -> usize
     part.words.len()
 }
 
-// The two words of a node that holds no number, by its kind's word, and the words of its first operand.
+// The two words of a node that holds no number, by its kind's word, and the words of its first operand. The word, not a `Binary` or `Unary`: the
+// node is of either.
 fn put_first(kind: u64, part: Tree<'_>, out: &mut [u64])
     requires { 2 + length part.words.now ≤ length out.old }
     ensures { Laid out.old out.new ((kind ∷ 0 ∷ []) ++ encode (tree_of part.entry)) }
