@@ -13,6 +13,8 @@ ghost use Rattle.frame.specs.Answers.{Decodes, ReadsLine, PutsFrame};
 ghost use Rattle.frame.specs.Promises.{read_line, Reads};
 
 use expr::refusal::Refusal;
+use expr::tree::Tree;
+use width::Width;
 
 // What a line is the frame of: a width, and how many nodes a tree has.
 #[derive(Clone, Copy)]
@@ -70,12 +72,13 @@ pub fn read_line(line: &[u8], words: &mut [u64]) -> Result<Frame, Refusal>
 fn hand_over(words: &[u64], width: u32, out: &mut [u64]) -> Result<Frame, Refusal>
     ensures { Reads (framed (length out.old) (width, words.now)) result out.old out.new }
 {
-    let nodes = width::check_tree_at(words, width)?;
-    if out.len() < 2 * nodes {
-        return Err(Refusal::OutputTooSmall);
-    }
+    Width::try_from(width)?;
+    let tree = Tree::read(words)?.with_room(out.len(), 0)?;
     expr::copy_words(words, out);
-    Ok(Frame { width, nodes })
+    Ok(Frame {
+        width,
+        nodes: tree.nodes(),
+    })
 }
 
 // Reads a line, its 0a not counted. Its words go to `words` first, so that `out` is as it was where the line is refused.
@@ -106,7 +109,7 @@ fn lay_frame(words: &[u64], width: u32, out: &mut [u8]) -> usize
     ensures written { out.new ≡ over (digits 2 width ++ (nodes_text (length words.now / 2) words.now ++ (10 ∷ []))) out.old }
 {
     let last = 2 + 18 * (words.len() / 2);
-    hexadecimal::put_digits(width as u64, 2, out);
+    hexadecimal::put_digits(u64::from(width), 2, out);
     hexadecimal::put_nodes(words, &mut out[2..]);
     out[last] = b'\n';
     last + 1
