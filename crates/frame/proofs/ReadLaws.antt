@@ -1,6 +1,8 @@
 -- A line that is read. Assumes nothing.
 use Rattle.std.proofs.Common.{◌≡◌, refl, sym, ap, ap₂, subst, ◌∙◌, Bool, true, false, ◌&&◌, List, [], ◌∷◌, ◌++◌, ℕ, suc, ◌+◌, ◌-◌, ◌*◌, ◌/◌, ◌%◌, ◌^◌, ◌≤◌, min, Option, None, Some, MatchOption, Result, Ok, Err, length, take, drop, get_or, arith, length-drop, length-take, take-append-drop, take_all, take_at, lt-ltb, le-ltb, ne_eqb, leb-true, Fits, w32}
 use Rattle.std.specs.Bool.{then_some}
+use Rattle.std.specs.Option.{ok_or}
+use Rattle.std.proofs.lemmas.List.{take-append-le}
 use Rattle.std.proofs.Math.Dec.{leb, ltb, eqb}
 use Rattle.std.proofs.Math.Seq.{take-suc}
 use Rattle.arith.specs.ChoiceLaws.{both_true}
@@ -21,7 +23,7 @@ use Rattle.hexadecimal.specs.Nodes.{words_of}
 use Rattle.hexadecimal.specs.NodesLaws.{length_words}
 use Rattle.frame.specs.Frame.{nodes_in, line_words, unended, framed, read_frame}
 use Rattle.frame.specs.FrameLaws.{bytes_of_nodes, line_read, unended_last}
-use Rattle.frame.specs.Answers.{line_outcome, Decodes}
+use Rattle.frame.specs.Answers.{line_outcome, Decodes, ReadsLine}
 use Rattle.frame.specs.Promises.{read_line, Reads}
 use Rattle.width.specs.Checked.{checked, width_of_call}
 use Rattle.expr.specs.Room.{room_for, with_words}
@@ -128,6 +130,18 @@ module _ (line : List ℕ) (n : ℕ) (h : (n ≡ nodes_in (length line)) × (1 �
             go false f = bad_digit f words
 
 pub ruleset decoding = (none_decoded, width_there, width_fits, digits_read)
+
+-- words behind those that a line is read to
+pub front_decoded : (line words rest : List ℕ) (o : Option Frame) → Decodes line words o → 1024 ≤ length words → Decodes line (words ++ rest) o
+front_decoded line words rest None d l = record { is = d.is; few = d.few }
+front_decoded line words rest (Some f) d l = record { is = d.is ∙ ap (λ (vs : List ℕ). accepted (f.width, vs)) (sym (take-append-le (2 * f.nodes) words rest (omega (arith, d.few)))); few = d.few }
+
+pub line_answered : (line before after : List ℕ) → 1024 ≤ length before → (o : Option Frame) → Decodes line after o → (r : Result Frame Refusal) → r ≡ ok_or o NoFrame → ReadsLine line before after r
+line_answered line before after room o d r e = subst (ReadsLine line before after) (sym e) (go o d)
+  where
+    go : (o : Option Frame) → Decodes line after o → ReadsLine line before after (ok_or o NoFrame)
+    go None d = record { short = λ s. absurd (omega arith); read = λ h. d; none = λ h f i. grind arith }
+    go (Some f) d = record { short = λ s. absurd (omega arith); read = λ h. d; none = λ h f i. grind arith }
 
 -- ---- `hand_over`
 

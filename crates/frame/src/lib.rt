@@ -45,9 +45,9 @@ fn without_end(line: &[u8]) -> &[u8]
 
 // Reads a line, its 0a not counted, with no look at the tree: puts its words at the front of `words`. Where the line is no frame, words may
 // be written too.
-fn decode(line: &[u8], words: &mut [u64]) -> Option<Frame>
-    requires { 1024 ≤ length words.old }
-    ensures { Decodes line.now words.new result }
+fn decode(line: &[u8], words: &mut [u64; 1024]) -> Option<Frame>
+    ensures reads { Decodes line.now words.new result }
+    ensures size { length words.new ≡ 1024 }
 {
     let nodes = nodes_in(line.len())?;
     let width = hexadecimal::number(&line[..2]);
@@ -62,9 +62,7 @@ fn decode(line: &[u8], words: &mut [u64]) -> Option<Frame>
 pub fn read_line(line: &[u8], words: &mut [u64]) -> Result<Frame, Refusal>
     ensures { ReadsLine line.now words.old words.new result }
 {
-    if words.len() < 1024 {
-        return Err(Refusal::OutputTooSmall);
-    }
+    let words = words.first_chunk_mut().ok_or(Refusal::OutputTooSmall)?;
     decode(line, words).ok_or(Refusal::NoFrame)
 }
 
@@ -82,8 +80,7 @@ fn hand_over(words: &[u64], width: u32, out: &mut [u64]) -> Result<Frame, Refusa
 }
 
 // Reads a line, its 0a not counted. Its words go to `words` first, so that `out` is as it was where the line is refused.
-fn read_by(line: &[u8], words: &mut [u64], out: &mut [u64]) -> Result<Frame, Refusal>
-    requires { 1024 ≤ length words.old }
+fn read_by(line: &[u8], words: &mut [u64; 1024], out: &mut [u64]) -> Result<Frame, Refusal>
     ensures { Reads (read_line line.now (length out.old)) result out.old out.new }
 {
     let read = decode(line, words).ok_or(Refusal::NoFrame)?;
