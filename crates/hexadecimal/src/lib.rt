@@ -141,7 +141,7 @@ fn read_node(s: &[u8], out: &mut [u64]) -> bool
 
 // Puts the words of the nodes whose digits `s` is at the front of `out`, as many whole nodes as `s` has and `out` has room for; whether each
 // byte that was read is a digit. The words are written also where one is not. By places: the library says of `chunks_exact_mut` only what the
-// chunks are at first, and not what the slice ends as.
+// chunks are at first, and not what the slice ends as; with `as_chunks` for `s` alone, `out` would need the count and the place all the same.
 pub fn read_nodes(s: &[u8], out: &mut [u64]) -> bool
     ensures good { result ≡ all_digits (take (18 * min (length s.now / 18) (length out.old / 2)) s.now) }
     ensures written { out.new ≡ over (words_of (min (length s.now / 18) (length out.old / 2)) s.now) out.old }
