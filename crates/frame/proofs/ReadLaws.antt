@@ -1,15 +1,17 @@
 -- A line that is read. Assumes nothing.
-use Rattle.std.proofs.Common.{◌≡◌, refl, sym, ap, ap₂, subst, ◌∙◌, Bool, true, false, ◌&&◌, List, [], ◌∷◌, ◌++◌, ℕ, suc, ◌+◌, ◌-◌, ◌*◌, ◌/◌, ◌%◌, ◌^◌, ◌≤◌, ◌<◌, min, Option, None, Some, MatchOption, Result, Ok, Err, length, take, drop, get_or, arith, length-drop, length-take, take-append-drop, take_all, take_at, lt-ltb, le-ltb, ne_eqb, leb-true, Fits, w32, w64}
+use Rattle.std.proofs.Common.{◌≡◌, refl, sym, ap, ap₂, subst, ◌∙◌, Bool, true, false, ◌&&◌, List, [], ◌∷◌, ◌++◌, ℕ, suc, ◌+◌, ◌-◌, ◌*◌, ◌/◌, ◌%◌, ◌^◌, ◌≤◌, min, Option, None, Some, MatchOption, Result, Ok, Err, length, take, drop, get_or, arith, length-drop, length-take, take-append-drop, take_all, take_at, lt-ltb, le-ltb, ne_eqb, leb-true, Fits, w32}
 use Rattle.std.specs.Bool.{then_some}
+use Rattle.std.specs.Option.{ok_or}
+use Rattle.std.proofs.lemmas.List.{take-append-le}
 use Rattle.std.proofs.Math.Dec.{leb, ltb, eqb}
 use Rattle.std.proofs.Math.Seq.{take-suc}
 use Rattle.arith.specs.ChoiceLaws.{both_true}
 use Rattle.expr.specs.declared.refusal.Refusal.{Refusal}
-use Rattle.expr.specs.declared.refusal.Refusal.TheVariants.{OutputTooSmall, NoFrame}
+use Rattle.expr.specs.declared.refusal.Refusal.TheVariants.{NoFrame}
 use Rattle.expr.specs.Refusals.{refusal, reason_of}
-use Rattle.expr.specs.Outcome.{Outcome, refused, accepted, mapped, ◌and_then◌}
-use Rattle.expr.specs.OutcomeLaws.{then_accepted, then_refused, refused_then}
-use Rattle.expr.specs.Expr.{Expr, nodes}
+use Rattle.expr.specs.Outcome.{Outcome, refused, accepted, ◌and_then◌}
+use Rattle.expr.specs.OutcomeLaws.{then_accepted, then_refused}
+use Rattle.expr.specs.Expr.{Expr, encode, nodes}
 use Rattle.expr.specs.ExprLaws.{length_encode}
 use Rattle.expr.specs.Parts.{tail}
 use Rattle.expr.specs.TailLaws.{tail_drop, length_tail}
@@ -21,11 +23,13 @@ use Rattle.hexadecimal.specs.Nodes.{words_of}
 use Rattle.hexadecimal.specs.NodesLaws.{length_words}
 use Rattle.frame.specs.Frame.{nodes_in, line_words, unended, framed, read_frame}
 use Rattle.frame.specs.FrameLaws.{bytes_of_nodes, line_read, unended_last}
-use Rattle.frame.specs.Answers.{line_outcome, Decodes}
+use Rattle.frame.specs.Answers.{line_outcome, Decodes, ReadsLine}
 use Rattle.frame.specs.Promises.{read_line, Reads}
-use Rattle.width.specs.Checked.{checked}
-use Rattle.expr.specs.Room.{with_words}
-use Rattle.width.specs.CheckedLaws.{Tree, checked_tree, too_little, enough}
+use Rattle.width.specs.Checked.{checked, width_of_call}
+use Rattle.expr.specs.Room.{room_for, with_words}
+use Rattle.expr.specs.Parse.{parse}
+use Rattle.expr.specs.ParseLaws.{parse_sound}
+use Rattle.width.specs.CheckedLaws.{width_refused, checked_parse, roomy}
 use Rattle.frame.specs.declared.Frame.{Frame}
 
 -- ---- `nodes_in`
@@ -127,6 +131,18 @@ module _ (line : List ℕ) (n : ℕ) (h : (n ≡ nodes_in (length line)) × (1 �
 
 pub ruleset decoding = (none_decoded, width_there, width_fits, digits_read)
 
+-- words behind those that a line is read to
+pub front_decoded : (line words rest : List ℕ) (o : Option Frame) → Decodes line words o → 1024 ≤ length words → Decodes line (words ++ rest) o
+front_decoded line words rest None d l = record { is = d.is; few = d.few }
+front_decoded line words rest (Some f) d l = record { is = d.is ∙ ap (λ (vs : List ℕ). accepted (f.width, vs)) (sym (take-append-le (2 * f.nodes) words rest (omega (arith, d.few)))); few = d.few }
+
+pub line_answered : (line before after : List ℕ) → 1024 ≤ length before → (o : Option Frame) → Decodes line after o → (r : Result Frame Refusal) → r ≡ ok_or o NoFrame → ReadsLine line before after r
+line_answered line before after room o d r e = subst (ReadsLine line before after) (sym e) (go o d)
+  where
+    go : (o : Option Frame) → Decodes line after o → ReadsLine line before after (ok_or o NoFrame)
+    go None d = record { short = λ s. absurd (omega arith); read = λ h. d; none = λ h f i. grind arith }
+    go (Some f) d = record { short = λ s. absurd (omega arith); read = λ h. d; none = λ h f i. grind arith }
+
 -- ---- `hand_over`
 
 abbrev at_width : ℕ → Expr → Outcome (ℕ × Expr)
@@ -135,39 +151,42 @@ at_width w t = accepted (w, t)
 reads_refused : (o : Outcome (ℕ × Expr)) (r : Refusal) (before : List ℕ) → o ≡ refused (reason_of r) → Reads o (Err r) before before
 reads_refused o r before e = subst (λ (p : Outcome (ℕ × Expr)). Reads p (Err r) before before) (sym e) (record { answer = refl; memory = refl })
 
+same_room : (room : ℕ) (t : Expr) → room_for (λ u. 2 * (nodes u + 0)) room t ≡ with_words room t
+unfolding room_for
+same_room room t = let e : 2 * (nodes t + 0) ≡ 2 * nodes t = omega arith in rw e
+
 module _ (w : ℕ) (ws before : List ℕ) where
-  pub check_refused : (r : Refusal) → refused (reason_of r) ≡ mapped nodes (checked w ws) → Reads (framed (length before) (w, ws)) (Err r) before before
+  abbrev answer : Outcome (ℕ × Expr)
+  answer = framed (length before) (w, ws)
+
+  not_checked : (r : Refusal) → refused (reason_of r) ≡ checked w ws → Reads answer (Err r) before before
   unfolding framed
-  check_refused r h =
-      reads_refused (framed (length before) (w, ws)) r before
-      (then_refused (sym (refused_then nodes (with_words (length before)) (checked w ws) h)) (at_width w))
+  not_checked r e = reads_refused answer r before (then_refused (then_refused (sym e) (with_words (length before))) (at_width w))
 
-  module _ (n : ℕ) (h : accepted n ≡ mapped nodes (checked w ws)) where
-    found : Tree w ws n
-    found = checked_tree w ws n h
+  pub width_no : (r : Refusal) → refused (reason_of r) ≡ width_of_call w → Reads answer (Err r) before before
+  width_no r e = not_checked r (width_refused w (reason_of r) e ws)
 
-    pub words_fit : Fits w64 (2 * n)
-    words_fit = omega (arith, found.few)
+  module _ (b : ℕ) (e : accepted b ≡ width_of_call w) where
+    pub words_no : (r : Refusal) → refused (reason_of r) ≡ parse ws → Reads answer (Err r) before before
+    words_no r f = not_checked r (f ∙ checked_parse w b e ws)
 
-    pub room_refused : length before < 2 * n → Reads (framed (length before) (w, ws)) (Err OutputTooSmall) before before
-    unfolding framed
-    room_refused l =
-        let f : length before < 2 * nodes found.tree = omega (arith, found.count) in
-        reads_refused (framed (length before) (w, ws)) OutputTooSmall before (then_refused (too_little _ (length before) found.is f) (at_width w))
+    module _ (t : Expr) (f : accepted t ≡ parse ws) where
+      with_room : (o : Outcome Expr) → o ≡ room_for (λ u. 2 * (nodes u + 0)) (length before) t → (checked w ws and_then with_words (length before)) ≡ o
+      with_room o g = then_accepted (sym (f ∙ checked_parse w b e ws)) (with_words (length before)) ∙ sym (same_room (length before) t) ∙ sym g
 
-    module _ (l : 2 * n ≤ length before) where
-      fits : length ws ≤ length before
-      fits = omega (arith, ap length found.words, length_encode found.tree, found.count)
-
-      pub handed : (after : List ℕ) → after ≡ over (take (length before) ws) before → Reads (framed (length before) (w, ws)) (Ok (record { width = w; nodes = n })) before after
+      pub room_no : (r : Refusal) → refused (reason_of r) ≡ room_for (λ u. 2 * (nodes u + 0)) (length before) t → Reads answer (Err r) before before
       unfolding framed
-      handed after m =
-          let f : 2 * nodes found.tree ≤ length before = omega (arith, found.count) in
-          let e : framed (length before) (w, ws) ≡ accepted (w, found.tree) = then_accepted (enough _ (length before) found.is f) (at_width w) in
-          subst (λ (o : Outcome (ℕ × Expr)). Reads o (Ok (record { width = w; nodes = n })) before after) (sym e)
-          (record { answer = ap (λ (i : ℕ). accepted (record { width = w; nodes = i })) (sym found.count); memory = m ∙ ap (λ (vs : List ℕ). over vs before) (take_all (length before) ws fits ∙ found.words) })
+      room_no r g = reads_refused answer r before (then_refused (with_room _ g) (at_width w))
 
-pub ruleset handing = (check_refused, words_fit, room_refused, handed)
+      pub handed : (u : Expr) → accepted u ≡ room_for (λ v. 2 * (nodes v + 0)) (length before) t → (n : ℕ) → n ≡ nodes u → (after : List ℕ) → after ≡ over (take (length before) ws) before → Reads answer (Ok (record { width = w; nodes = n })) before after
+      unfolding framed
+      handed u g n h after m =
+          let k = roomy (λ (v : Expr). 2 * nodes v) (length before) (checked w ws) (with_room _ g) in
+          let x : ws ≡ encode u = (parse_sound ws u (checked_parse w b e ws ∙ k.0)).words in
+          let y : answer ≡ accepted (w, u) = then_accepted (with_room _ g) (at_width w) in
+          let z : length ws ≤ length before = omega (arith, ap length x, length_encode u, k.1) in
+          subst (λ (o : Outcome (ℕ × Expr)). Reads o (Ok (record { width = w; nodes = n })) before after) (sym y)
+          (record { answer = ap (λ (i : ℕ). accepted (record { width = w; nodes = i })) h; memory = m ∙ ap (λ (vs : List ℕ). over vs before) (take_all (length before) ws z ∙ x) })
 
 -- ---- `read_by` and `read_frame`
 

@@ -13,6 +13,8 @@ ghost use Rattle.frame.specs.Answers.{Decodes, ReadsLine, PutsFrame};
 ghost use Rattle.frame.specs.Promises.{read_line, Reads};
 
 use expr::refusal::Refusal;
+use expr::tree::Tree;
+use width::Width;
 
 // What a line is the frame of: a width, and how many nodes a tree has.
 #[derive(Clone, Copy)]
@@ -43,9 +45,9 @@ fn without_end(line: &[u8]) -> &[u8]
 
 // Reads a line, its 0a not counted, with no look at the tree: puts its words at the front of `words`. Where the line is no frame, words may
 // be written too.
-fn decode(line: &[u8], words: &mut [u64]) -> Option<Frame>
-    requires { 1024 ≤ length words.old }
-    ensures { Decodes line.now words.new result }
+fn decode(line: &[u8], words: &mut [u64; 1024]) -> Option<Frame>
+    ensures reads { Decodes line.now words.new result }
+    ensures size { length words.new ≡ 1024 }
 {
     let nodes = nodes_in(line.len())?;
     let width = hexadecimal::number(&line[..2]);
@@ -60,9 +62,7 @@ fn decode(line: &[u8], words: &mut [u64]) -> Option<Frame>
 pub fn read_line(line: &[u8], words: &mut [u64]) -> Result<Frame, Refusal>
     ensures { ReadsLine line.now words.old words.new result }
 {
-    if words.len() < 1024 {
-        return Err(Refusal::OutputTooSmall);
-    }
+    let words = words.first_chunk_mut().ok_or(Refusal::OutputTooSmall)?;
     decode(line, words).ok_or(Refusal::NoFrame)
 }
 
@@ -70,17 +70,17 @@ pub fn read_line(line: &[u8], words: &mut [u64]) -> Result<Frame, Refusal>
 fn hand_over(words: &[u64], width: u32, out: &mut [u64]) -> Result<Frame, Refusal>
     ensures { Reads (framed (length out.old) (width, words.now)) result out.old out.new }
 {
-    let nodes = width::check_tree_at(words, width)?;
-    if out.len() < 2 * nodes {
-        return Err(Refusal::OutputTooSmall);
-    }
+    Width::try_from(width)?;
+    let tree = Tree::read(words)?.with_room(out.len(), 0)?;
     expr::copy_words(words, out);
-    Ok(Frame { width, nodes })
+    Ok(Frame {
+        width,
+        nodes: tree.nodes(),
+    })
 }
 
 // Reads a line, its 0a not counted. Its words go to `words` first, so that `out` is as it was where the line is refused.
-fn read_by(line: &[u8], words: &mut [u64], out: &mut [u64]) -> Result<Frame, Refusal>
-    requires { 1024 ≤ length words.old }
+fn read_by(line: &[u8], words: &mut [u64; 1024], out: &mut [u64]) -> Result<Frame, Refusal>
     ensures { Reads (read_line line.now (length out.old)) result out.old out.new }
 {
     let read = decode(line, words).ok_or(Refusal::NoFrame)?;
@@ -106,7 +106,7 @@ fn lay_frame(words: &[u64], width: u32, out: &mut [u8]) -> usize
     ensures written { out.new ≡ over (digits 2 width ++ (nodes_text (length words.now / 2) words.now ++ (10 ∷ []))) out.old }
 {
     let last = 2 + 18 * (words.len() / 2);
-    hexadecimal::put_digits(width as u64, 2, out);
+    hexadecimal::put_digits(u64::from(width), 2, out);
     hexadecimal::put_nodes(words, &mut out[2..]);
     out[last] = b'\n';
     last + 1

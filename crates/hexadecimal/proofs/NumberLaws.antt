@@ -2,12 +2,12 @@
 use mathlib.Core.Path.{◌≡◌, refl, sym, ap, ap₂, ◌∙◌}
 use mathlib.Core.Bool.{Bool, true, false, ◌&&◌}
 use mathlib.Core.List.{List, [], ◌∷◌, ◌++◌, append_assoc}
-use Prim.Native.Nat.{ℕ, zero, suc, ◌+◌, ◌-◌, ◌*◌, ◌/◌, ◌%◌, ◌^◌, ◌≤◌, ◌<◌}
+use Prim.Native.Nat.{ℕ, zero, suc, ◌+◌, ◌-◌, ◌*◌, ◌/◌, ◌%◌, ◌^◌, ◌≤◌, ◌<◌, max}
 use native.Mathlib.Nat.{pow-suc}
 use native.Mathlib.Omega.{arith}
 use lib.Dec.{ltb}
-use lib.ListN.{length, take, drop, get_or, set}
-use lib.Seq.{take-suc, take_all, set_split, drop_at, length-take-le}
+use lib.ListN.{length, take, drop, set}
+use lib.Seq.{set_split, drop_at, length-take-le}
 use borrow.Author.Tests.{lt-ltb, le-ltb}
 use Rattle.expr.specs.Lent.{over}
 use Rattle.hexadecimal.specs.Hex.{glyph_of, digit_of, digits, all_digits, number_from, number_of, places_from, places}
@@ -16,37 +16,24 @@ use Rattle.hexadecimal.specs.declared.Parsed.{Parsed}
 
 -- ---- `number`
 
--- after i turns the first i bytes are read
-pub record Reading (s : List ℕ) (value : ℕ) (good : Bool) (i : ℕ) : Type 0 where
-  pub value_is : value ≡ number_of (take i s) % 2 ^ 64
-  pub good_is : good ≡ all_digits (take i s)
+-- what `number` says of bytes
+abbrev pub parsed : List ℕ → Parsed
+parsed bs = record { value = number_of bs % 2 ^ 64; good = all_digits bs }
 
-pub none_read : (s : List ℕ) → Reading s 0 true 0
+pub none_read : ◌≡◌ {A = Parsed} (record { value = 0; good = true }) (parsed [])
 unfolding number_from all_digits
-none_read s = record { value_is = refl; good_is = refl }
+none_read = refl
 
-module _ (s : List ℕ) (value : ℕ) (good : Bool) (i : ℕ) (r : Reading s value good i) where
-  pub one_read : i < length s → (d : ℕ) (there : Bool) → d ≡ digit_of (get_or s i 0) % 16 → there ≡ ltb (digit_of (get_or s i 0)) 16 → Reading s (value % 2 ^ 60 * 16 + d) (good && there) (i + 1)
-  unfolding all_digits
-  one_read l d there e f =
-      let b : ℕ = get_or s i 0 in
-      let t : take (i + 1) s ≡ take i s ++ (b ∷ []) = ap (λ (j : ℕ). take j s) (let f : i + 1 ≡ suc i = omega arith in f) ∙ take-suc s i 0 l in
-      let n : number_of (take (i + 1) s) ≡ number_of (take i s) * 16 + d = ap number_of t ∙ number_last 0 (take i s) b ∙ ap (λ (x : ℕ). number_of (take i s) * 16 + x) (sym e) in
-      record {
-        value_is = rw n (omega (arith, r.value_is));
-        good_is = ap₂ ◌&&◌ r.good_is (f ∙ and_true (ltb (digit_of b) 16)) ∙ sym (all_append (take i s) (b ∷ [])) ∙ ap all_digits (sym t);
-      }
-    where
-      and_true : (p : Bool) → p ≡ (p && true)
-      and_true true = refl
-      and_true false = refl
-
-  pub all_read : length s ≤ i → ◌≡◌ {A = Parsed} (record { value = value; good = good }) (record { value = number_of s % 2 ^ 64; good = all_digits s })
-  all_read h =
-      let t : take i s ≡ s = take_all i s h in
-      ap₂ (λ (v : ℕ) (g : Bool). record { value = v; good = g }) (r.value_is ∙ ap (λ (l : List ℕ). number_of l % 2 ^ 64) t) (r.good_is ∙ ap all_digits t)
-
-pub ruleset reading = (none_read, one_read, all_read)
+pub one_read : (bs : List ℕ) (b : ℕ) (p : Parsed) → p ≡ parsed bs → ◌≡◌ {A = Parsed} (record { value = p.value % 2 ^ 60 * 16 + digit_of b % 16; good = p.good && ltb (digit_of b) 16 }) (parsed (bs ++ (b ∷ [])))
+unfolding all_digits
+one_read bs b p r =
+    let v : p.value ≡ number_of bs % 2 ^ 64 = ap (λ (q : Parsed). q.value) r in
+    ap₂ (λ (v : ℕ) (g : Bool). record { value = v; good = g }) (rw (number_last 0 bs b) (omega (arith, v)))
+    (ap₂ ◌&&◌ (ap (λ (q : Parsed). q.good) r) (and_true (ltb (digit_of b) 16)) ∙ sym (all_append bs (b ∷ [])))
+  where
+    and_true : (p : Bool) → p ≡ (p && true)
+    and_true true = refl
+    and_true false = refl
 
 -- ---- `put_digits`
 
@@ -84,36 +71,22 @@ pub ruleset putting = (none_put, one_put, all_put)
 
 -- ---- `count_places`
 
--- `count` digits are counted, of which the last is of `rest`, and `more` more may come
-pub record Counting (n count rest : ℕ) : Type 0 where
-  pub more : ℕ
-  pub most : count + more ≡ 16
-  pub small : rest < 16 ^ suc more
-  pub is : count + places_from more rest ≡ suc (places n)
+places_log : (more n m : ℕ) → n < 16 ^ suc more → 2 ^ m ≤ max n 1 → max n 1 < 2 * 2 ^ m → 1 + m / 4 ≡ places_from more n
+unfolding places_from
+places_log zero n zero h l u = omega arith
+places_log zero n (suc zero) h l u = omega arith
+places_log zero n (suc (suc zero)) h l u = omega arith
+places_log zero n (suc (suc (suc zero))) h l u = omega arith
+places_log zero n (suc (suc (suc (suc m)))) h l u = absurd (omega (arith, pow-suc 2 (suc (suc (suc m))), pow-suc 2 (suc (suc m)), pow-suc 2 (suc m), pow-suc 2 m))
+places_log (suc more) n zero h l u = rw (lt-ltb n 16 (omega arith)) (omega arith)
+places_log (suc more) n (suc zero) h l u = rw (lt-ltb n 16 (omega arith)) (omega arith)
+places_log (suc more) n (suc (suc zero)) h l u = rw (lt-ltb n 16 (omega arith)) (omega arith)
+places_log (suc more) n (suc (suc (suc zero))) h l u = rw (lt-ltb n 16 (omega arith)) (omega arith)
+places_log (suc more) n (suc (suc (suc (suc m)))) h l u =
+    let p : 2 ^ suc (suc (suc (suc m))) ≡ 2 ^ m * 16 = omega (arith, pow-suc 2 (suc (suc (suc m))), pow-suc 2 (suc (suc m)), pow-suc 2 (suc m), pow-suc 2 m) in
+    let e : 1 + m / 4 ≡ places_from more (n / 16) = places_log more (n / 16) m (omega (arith, pow-suc 16 (suc more))) (omega (arith, p)) (omega (arith, p)) in
+    rw (le-ltb n 16 (omega (arith, p))) (omega (arith, e))
 
-pub one_counted : (n : ℕ) → n < 2 ^ 64 → Counting n 1 n
-one_counted n h = record { more = 15; most = refl; small = h; is = omega arith }
-
-module _ (n count rest : ℕ) where
-  pub one_more : 15 < rest → Counting n count rest → Counting n (count + 1) (rest / 16)
-  unfolding places_from
-  one_more h c = go c.more c.most c.small c.is
-    where
-      go : (more : ℕ) → count + more ≡ 16 → rest < 16 ^ suc more → count + places_from more rest ≡ suc (places n) → Counting n (count + 1) (rest / 16)
-      go zero m s e = absurd (omega arith)
-      go (suc more) m s e = record {
-        more = more;
-        most = omega arith;
-        small = omega (arith, pow-suc 16 (suc more));
-        is = let f : count + suc (places_from more (rest / 16)) ≡ suc (places n) = rw (le-ltb rest 16 (omega arith)) at e in omega arith;
-      }
-
-  pub all_counted : rest ≤ 15 → Counting n count rest → count ≡ places n
-  unfolding places_from
-  all_counted h c = go c.more c.is
-    where
-      go : (more : ℕ) → count + places_from more rest ≡ suc (places n) → count ≡ places n
-      go zero e = omega arith
-      go (suc more) e = let f : count + 1 ≡ suc (places n) = rw (lt-ltb rest 16 (omega arith)) at e in omega arith
-
-pub ruleset counting = (one_counted, one_more, all_counted)
+-- a digit stands for four binary digits
+pub places_of_log : (n m : ℕ) → n < 2 ^ 64 → 2 ^ m ≤ max n 1 → max n 1 < 2 * 2 ^ m → 1 + m / 4 ≡ places n
+places_of_log n m h l u = places_log 15 n m h l u

@@ -7,7 +7,7 @@ use native.Mathlib.Nat.{pow-suc, add-zero, add-mul, mul_assoc, mul_comm, div-div
 use native.Mathlib.Omega.{arith}
 use lib.Dec.{eqb}
 use lib.ListN.{length, take, drop, get_or, length-append, length-drop}
-use lib.Seq.{take-suc, take_all, take-add, take_at, drop_at, drop-drop, drop-length, length-take-le}
+use lib.Seq.{take_all, take-add, take_at, drop_at, drop-drop, drop-length, length-take-le}
 use borrow.Author.Tests.{eqb-true}
 use borrow.Rule.Slice.PartMut.{put_mid}
 use Rattle.std.specs.Prelude.{replicate}
@@ -19,10 +19,7 @@ use Rattle.hexadecimal.specs.Promises.{all_zeros}
 use Rattle.hexadecimal.specs.HexLaws.{and_assoc, all_append, number_below, number_whole, length_digits}
 use Rattle.hexadecimal.specs.Nodes.{nodes_text}
 use Rattle.hexadecimal.specs.declared.Parsed.{Parsed}
-
--- what `number` says of bytes
-abbrev pub parsed : List ℕ → Parsed
-parsed bs = record { value = number_of bs % 2 ^ 64; good = all_digits bs }
+use Rattle.hexadecimal.proofs.NumberLaws.{parsed}
 
 -- ---- `is_zeros`
 
@@ -35,26 +32,12 @@ zeros_last [] b = and_true (eqb b 48)
     and_true false = refl
 zeros_last (c ∷ bs) b = ap (λ (t : Bool). eqb c 48 && t) (zeros_last bs b) ∙ and_assoc (eqb c 48) (all_zeros bs) (eqb b 48)
 
--- after i turns it is known of the first i bytes
-pub record Testing (s : List ℕ) (zeros : Bool) (i : ℕ) : Type 0 where
-  pub is : zeros ≡ all_zeros (take i s)
-
-pub none_tested : (s : List ℕ) → Testing s true 0
+pub none_tested : true ≡ all_zeros []
 unfolding all_zeros
-none_tested s = record { is = refl }
+none_tested = refl
 
-module _ (s : List ℕ) (zeros : Bool) (i : ℕ) (t : Testing s zeros i) where
-  pub one_tested : i < length s → Testing s (zeros && eqb (get_or s i 0) 48) (i + 1)
-  one_tested l =
-      let e : take (i + 1) s ≡ take i s ++ (get_or s i 0 ∷ []) = ap (λ (j : ℕ). take j s) (let f : i + 1 ≡ suc i = omega arith in f) ∙ take-suc s i 0 l in
-      record {
-        is = ap (λ (p : Bool). p && eqb (get_or s i 0) 48) t.is ∙ sym (zeros_last (take i s) (get_or s i 0)) ∙ ap all_zeros (sym e);
-      }
-
-  pub all_tested : length s ≤ i → zeros ≡ all_zeros s
-  all_tested h = t.is ∙ ap all_zeros (take_all i s h)
-
-pub ruleset testing = (none_tested, one_tested, all_tested)
+pub one_tested : (bs : List ℕ) (b : ℕ) (zeros : Bool) → zeros ≡ all_zeros bs → (zeros && eqb b 48) ≡ all_zeros (bs ++ (b ∷ []))
+one_tested bs b zeros e = ap (λ (p : Bool). p && eqb b 48) e ∙ sym (zeros_last bs b)
 
 -- ---- `half`
 

@@ -16,7 +16,7 @@ use Rattle.hexadecimal.specs.HexLaws.{all_append, number_whole}
 use Rattle.hexadecimal.specs.Nodes.{nodes_text, words_of}
 use Rattle.hexadecimal.specs.NodesLaws.{length_nodes, length_words, nodes_last, words_last}
 use Rattle.hexadecimal.specs.declared.Parsed.{Parsed}
-use Rattle.hexadecimal.proofs.OperandLaws.{parsed}
+use Rattle.hexadecimal.proofs.NumberLaws.{parsed}
 
 -- ---- `read_node`
 

@@ -2,7 +2,7 @@
 // a byte is no digit, so that a caller reads digits and tests them in one pass.
 #![tactic(auto)]
 
-ghost use Rattle.std.specs.Prelude.{◌≡◌, min, ◌*◌, ◌/◌, ◌%◌, ◌^◌, ◌<◌, ◌≤◌, length, take, is_some, unwrap_or, nat_lt};
+ghost use Rattle.std.specs.Prelude.{◌≡◌, min, ◌+◌, ◌*◌, ◌/◌, ◌%◌, ◌^◌, ◌<◌, ◌≤◌, ◌&&◌, length, take, is_some, unwrap_or, nat_lt};
 ghost use Rattle.expr.specs.Lent.{over};
 ghost use Rattle.expr.specs.Parts.{Laid};
 ghost use Rattle.hexadecimal.specs.Hex.{glyph_of, digit_of, digits, all_digits, number_of, places};
@@ -21,11 +21,11 @@ fn digit(b: u8) -> Option<u64>
     ensures there { is_some result ≡ nat_lt (digit_of b) 16 }
     ensures value { unwrap_or result 0 ≡ digit_of b % 16 }
 {
-    let x = b as u64;
-    let d = x % 16 + 9 * (x / 64);
-    let low = (47 < x) & (x < 58);
-    let high = (96 < x) & (x < 103);
-    (low | high).then_some(d)
+    match b {
+        b'0'..=b'9' => Some(u64::from(b - b'0')),
+        b'a'..=b'f' => Some(u64::from(b - b'a') + 10),
+        _ => None,
+    }
 }
 
 // The byte of a digit.
@@ -44,14 +44,22 @@ fn glyph(d: u64) -> u8
 pub fn number(s: &[u8]) -> Parsed
     ensures { result ≡ record { value = number_of s.now % 2 ^ 64; good = all_digits s.now } }
 {
-    let mut value = 0;
-    let mut good = true;
-    for b in s {
-        let d = digit(*b);
-        value = (value % 0x1000_0000_0000_0000) * 16 + d.unwrap_or(0);
-        good = good & d.is_some();
-    }
-    Parsed { value, good }
+    let none = Parsed {
+        value: 0,
+        good: true,
+    };
+    s.iter().fold(
+        none,
+        |before, b|
+            ensures { result ≡ record { value = before.value % 2 ^ 60 * 16 + digit_of b.now % 16; good = before.good && nat_lt (digit_of b.now) 16 } }
+        {
+            let d = digit(*b);
+            Parsed {
+                value: (before.value % 0x1000_0000_0000_0000) * 16 + d.unwrap_or(0),
+                good: before.good & d.is_some(),
+            }
+        },
+    )
 }
 
 // Puts the last k digits of n at the front of `out`, or as many of the last digits as it has places.
@@ -60,23 +68,19 @@ pub fn put_digits(n: u64, k: usize, out: &mut [u8])
 {
     let count = k.min(out.len());
     let mut rest = n;
+    // tried: `out[..count].iter_mut().rev()`: of what the places end as the check knows nothing
     for i in (0..count).rev() {
         out[i] = glyph(rest % 16);
         rest /= 16;
     }
 }
 
-// How many digits n has without zeros in front. A `while`: it divides until nothing is left and counts no index.
+// How many digits n has without zeros in front.
+#[tactic(auto, using(crate::proofs::NumberLaws::places_of_log))]
 fn count_places(n: u64) -> usize
     ensures { result ≡ places n }
 {
-    let mut count = 1;
-    let mut rest = n;
-    while 15 < rest {
-        count += 1;
-        rest /= 16;
-    }
-    count
+    1 + n.max(1).ilog2() as usize / 4
 }
 
 // Puts n without zeros in front at the front of `out`, or as many of its last digits as `out` has places; how many digits those are.
@@ -89,15 +93,11 @@ pub fn put_number(n: u64, out: &mut [u8]) -> usize
     count
 }
 
-// Whether every byte is the digit 0. It looks at all of them, so that the compiler does so in one step where their count is fixed.
+// Whether every byte is the digit 0. No `all`: it looks at each of them, so that the compiler does so in one step where their count is fixed.
 fn is_zeros(s: &[u8]) -> bool
     ensures { result ≡ all_zeros s.now }
 {
-    let mut zeros = true;
-    for b in s {
-        zeros = zeros & (*b == b'0');
-    }
-    zeros
+    s.iter().fold(true, |zeros, b| zeros & (*b == b'0'))
 }
 
 // As `number`. Most operands are small, so most halves are zeros: these are read without a look at each digit's value.
@@ -141,7 +141,7 @@ fn read_node(s: &[u8], out: &mut [u64]) -> bool
 
 // Puts the words of the nodes whose digits `s` is at the front of `out`, as many whole nodes as `s` has and `out` has room for; whether each
 // byte that was read is a digit. The words are written also where one is not. By places: the library says of `chunks_exact_mut` only what the
-// chunks are at first, and not what the slice ends as.
+// chunks are at first, and not what the slice ends as; with `as_chunks` for `s` alone, `out` would need the count and the place all the same.
 pub fn read_nodes(s: &[u8], out: &mut [u64]) -> bool
     ensures good { result ≡ all_digits (take (18 * min (length s.now / 18) (length out.old / 2)) s.now) }
     ensures written { out.new ≡ over (words_of (min (length s.now / 18) (length out.old / 2)) s.now) out.old }

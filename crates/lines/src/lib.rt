@@ -22,7 +22,7 @@ pub fn end_of(chunk: &[u8]) -> usize
 }
 
 // Reads a chunk up to its first 0a: keeps the bytes before it in `line`, behind the `have` that are kept there. A `have` past the end of `line`
-// stands for all of it.
+// stands for all of it. A count, here and in `Taken`, and no slice of what is kept: the caller lends `line` anew with each chunk.
 pub fn keep(chunk: &[u8], line: &mut [u8], have: usize) -> Taken
     ensures used { result.used ≡ used_of chunk.now }
     ensures ended { result.ended ≡ has_end chunk.now }

@@ -24,7 +24,6 @@ use Rattle.report_lines.specs.StepsLaws.{IsReady, ready_open, step_on}
 use Rattle.report_lines.specs.Promises.{Printed, is_open, Adds, Prints, PrintsLast, Goes, state_of}
 use Rattle.report_lines.proofs.ReadyLaws.{sound_open, SoundPlaces, places_open, open_lines, open_room, open_shut}
 use Rattle.report_lines.proofs.AddsLaws.{adds_none, adds_part, adds_long, adds_front, adds_on}
-use Rattle.report_lines.proofs.TextLaws.{closing_most}
 use Rattle.report_lines.proofs.StepLaws.{rest_line, small, sound_next}
 
 -- ---- a line
@@ -207,15 +206,3 @@ module _ (line : List ℕ) (t : Totals) (put : ℕ) (out : List ℕ) (room : put
     }
 
 pub ruleset ending = (last_before, last_open, last_line_put)
-
-module _ (t : Totals) (put : ℕ) (out rest : List ℕ) (k : ℕ) (room : put + 53 ≤ length out) (l : Laid (tail put out) rest (closing t)) (e : k ≡ length (closing t)) where
-  pub closing_fits : put + k ≤ length out
-  closing_fits = omega (arith, e, closing_most t)
-
-  pub closing_put : Adds (closing t) put out (put + k) (put_mid put (length out - put) out rest)
-  closing_put = adds_part put out rest (closing t) k l e closing_fits
-
-pub closing_room : (put : ℕ) (out : List ℕ) → put + 53 ≤ length out → 53 ≤ length (tail put out)
-closing_room put out h = omega (arith, length_tail put out)
-
-pub ruleset shutting = (closing_fits, closing_put, closing_room)

@@ -73,7 +73,7 @@ fn run_chain(words: &[u64], width: u32, work: &mut [u64]) -> Result<ChainEnd, Re
 }
 
 // What comes of a line, its 0a not counted. Two slices and not `Scratch`: the answer borrows from them, which the check does not follow through a struct
-// with ghost fields.
+// with ghost fields. Slices and not arrays: `is_ready` tests every lent length in one place, and an array would be one more test for each.
 fn run_line<'a>(
     line: &[u8],
     words: &'a mut [u64],
@@ -102,7 +102,7 @@ impl Ongoing {
     {
         let totals = self.totals;
         let number = Reason::from(refusal).number;
-        let row = [totals.lines + 1, number as u64, 0, 0, 0, 0];
+        let row = [totals.lines + 1, u64::from(number), 0, 0, 0, 0];
         Line {
             put: text::put_fields(&row, out),
             totals: Totals {

@@ -1,12 +1,13 @@
 -- `frame::decode` meets its contract. Assumes nothing.
+use Rattle.std.proofs.Common.{arith}
 use borrow.Author.Rules.{rules}
 use Rattle.frame.proofs.ReadLaws.{decoding, digits_read}
 use Rattle.frame.proofs.decode.Goals as goal
 
 ruleset laws = (rules, decoding)
 
-pub returns-in_err-nodes : goal.returns-in_err-nodes
-returns-in_err-nodes c = search (laws, c.in_err-nodes.ensures)
+pub returns-in_err-nodes-clause-reads : goal.returns-in_err-nodes-clause-reads
+returns-in_err-nodes-clause-reads c = search (laws, c.in_err-nodes.ensures)
 
 pub slice_bounds-number-end : goal.slice_bounds-number-end
 slice_bounds-number-end c = search laws
@@ -20,6 +21,6 @@ slice_bounds-read_nodes-start c = search laws
 pub overflow_cast-width : goal.overflow_cast-width
 overflow_cast-width c = search laws
 
-pub returns : goal.returns
-returns c =
-    digits_read _ _ c.in_ok-nodes.ensures _ c.number-width.ensures _ c.requires _ c.read_nodes-good.ensures.good _ c.then_some.ensures _ c.read_nodes-good.ensures.written
+pub returns-clause-reads : goal.returns-clause-reads
+returns-clause-reads c =
+    digits_read _ _ c.in_ok-nodes.ensures _ c.number-width.ensures _ (omega arith) _ c.read_nodes-good.ensures.good _ c.then_some.ensures _ c.read_nodes-good.ensures.written

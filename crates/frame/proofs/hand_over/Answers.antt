@@ -1,21 +1,22 @@
 -- `frame::hand_over` meets its contract. Assumes nothing.
 use Rattle.std.proofs.lemmas.Result.{err_from_is_err_and}
-use borrow.Author.Rules.{rules}
-use Rattle.frame.proofs.ReadLaws.{check_refused, handing}
+use Rattle.frame.proofs.ReadLaws.{width_no, words_no, room_no, handed}
 use Rattle.frame.proofs.hand_over.Goals as goal
 
-ruleset laws = (rules, handing)
-
-pub returns-in_err-nodes : goal.returns-in_err-nodes
-returns-in_err-nodes c =
+pub returns-in_err-try_from : goal.returns-in_err-try_from
+returns-in_err-try_from c =
     let p = err_from_is_err_and c.from_residual.result c.from_residual.ensures.1 in
-    rw (p.1, p.2) (check_refused _ _ _ _ c.in_err-nodes.ensures)
+    rw (p.1, p.2) (width_no _ _ _ _ c.in_err-try_from.ensures)
 
-pub overflow_mul-nodes : goal.overflow_mul-nodes
-overflow_mul-nodes c = search (laws, c.in_ok-nodes.ensures)
+pub returns-in_err-read : goal.returns-in_err-read
+returns-in_err-read c =
+    let p = err_from_is_err_and c.from_residual-in_err-read.result c.from_residual-in_err-read.ensures.1 in
+    rw (p.1, p.2) (words_no _ _ _ _ c.in_ok-try_from.ensures _ c.in_err-read.ensures)
 
-pub returns-then-out-nodes : goal.returns-then-out-nodes
-returns-then-out-nodes c = search (laws, c.in_ok-nodes.ensures)
+pub returns-in_err-tree : goal.returns-in_err-tree
+returns-in_err-tree c =
+    let p = err_from_is_err_and c.from_residual-in_err-tree.result c.from_residual-in_err-tree.ensures.1 in
+    rw (p.1, p.2) (room_no _ _ _ _ c.in_ok-try_from.ensures _ c.in_ok-read.ensures _ c.in_err-tree.ensures)
 
 pub returns : goal.returns
-returns c = search (laws, c.in_ok-nodes.ensures)
+returns c = handed _ _ _ _ c.in_ok-try_from.ensures _ c.in_ok-read.ensures _ c.in_ok-tree.ensures _ c.nodes.ensures _ c.copy_words.ensures

@@ -10,9 +10,9 @@ returns-in_err-read c =
     let p = err_from_is_err_and c.from_residual.result c.from_residual.ensures.1 in
     let none : c.decode.result ≡ None = grind arith in
     let why : c.in_err-read.field-0.0 ≡ NoFrame = grind arith in
-    rw (p.1, p.2, why) (no_line _ _ _ c.decode.ensures none _)
+    rw (p.1, p.2, why) (no_line _ _ _ c.decode.ensures.reads none _)
 
 pub returns : goal.returns
 returns c =
     let some : c.decode.result ≡ Some c.in_ok-read.read = grind arith in
-    line_handed _ _ _ c.decode.ensures _ some _ _ _ c.hand_over.ensures
+    line_handed _ _ _ c.decode.ensures.reads _ some _ _ _ c.hand_over.ensures

@@ -1,17 +1,10 @@
 -- `hexadecimal::number` meets its contract. Assumes nothing.
-use Rattle.std.proofs.Common.{◌∙◌}
-use borrow.Author.Rules.{rules}
-use Rattle.hexadecimal.proofs.NumberLaws.{reading, one_read}
+use Rattle.std.proofs.Common.{◌≡◌, subst, rules}
+use Rattle.std.proofs.lemmas.Fn.{fold_over, slice_gives, fronts}
+use Rattle.hexadecimal.proofs.NumberLaws.{parsed, none_read, one_read}
 use Rattle.hexadecimal.proofs.number.Goals as goal
 
-ruleset laws = (rules, reading)
-
-pub loop-b-init : goal.loop-b-init
-loop-b-init c = search laws
-
-pub loop-b-preserved : goal.loop-b-preserved
-loop-b-preserved c =
-    one_read _ _ _ _ c.loop-b.invariant c.loop-b-test.true _ _ (c.unwrap_or.ensures ∙ c.digit-d.ensures.value) (c.is_some-good.ensures ∙ c.digit-d.ensures.there)
-
 pub returns : goal.returns
-returns c = search laws
+returns c = subst (λ l. c.fold.result ≡ parsed l) c.iter.ensures.rest
+    (fold_over fronts (λ y. y.now) _ (λ ys p. p ≡ parsed ys) _ (λ ys p b next f' e k. search (rules, one_read))
+    _ _ _ _ (slice_gives c.iter.result) none_read c.fold.ensures.ran)

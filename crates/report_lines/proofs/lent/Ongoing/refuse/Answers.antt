@@ -9,4 +9,7 @@ pub overflow_add-result-2 : goal.overflow_add-result-2
 overflow_add-result-2 c = search laws
 
 pub returns : goal.returns
-returns c = let p = c.put_fields.ensures in refused_printed _ _ _ _ _ _ c.from-number.ensures p.0 p.1
+returns c =
+    let p = c.put_fields.ensures in
+    let r = rw c.from.ensures at p in
+    refused_printed _ _ _ _ _ _ c.from-number.ensures r.0 r.1
