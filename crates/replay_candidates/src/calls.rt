@@ -1,7 +1,7 @@
 // The call, and what it leaves in the words that it is lent.
 use atom_identity_rewrite::Found;
 use expr::refusal::Refusal;
-use requests::output::{Output, Refused};
+use requests::output::Output;
 use requests::times::Call;
 use requests::{lent, times};
 
@@ -36,10 +36,7 @@ impl Candidate<'_, '_> {
                 write!(out, "none {passed:x}");
                 out.put_untouched(places);
             }
-            Err(r) => {
-                write!(out, "{}", Refused(r));
-                out.put_untouched(places);
-            }
+            Err(r) => out.put_refused(r, places),
         }
     }
 }

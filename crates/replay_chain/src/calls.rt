@@ -2,7 +2,7 @@
 use atom_simplifier::chain;
 use atom_simplifier::chain::ChainEnd;
 use expr::refusal::Refusal;
-use requests::output::{Output, Refused};
+use requests::output::Output;
 use requests::times::Call;
 use requests::{lent, times};
 
@@ -30,10 +30,7 @@ impl Chain<'_, '_> {
         let work = self.work;
         match outcome {
             Ok(end) => put_end(end, work, out),
-            Err(r) => {
-                write!(out, "{}", Refused(r));
-                out.put_untouched(work);
-            }
+            Err(r) => out.put_refused(r, work),
         }
     }
 }
@@ -41,14 +38,8 @@ impl Chain<'_, '_> {
 // The end tree, and whether the words behind it are 0.
 fn put_end(end: ChainEnd, work: &[u64], out: &mut Output<'_, impl Print>) {
     let taken = lent::words_of(end.nodes, work);
-    let nonzero = work
-        .iter()
-        .enumerate()
-        .skip(taken)
-        .find(|(_, word)| **word != 0)
-        .map(|(place, _)| place);
     write!(out, "{:x} {:x}", end.nodes, end.rewrites);
     out.put_list(&work[..taken]);
     out.put(b" /");
-    out.put_place(nonzero, "zero");
+    out.put_zero(work, taken);
 }

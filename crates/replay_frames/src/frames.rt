@@ -1,6 +1,6 @@
 // Requests to `frame`.
 use frame::Frame;
-use requests::output::{Output, Refused};
+use requests::output::Output;
 use requests::text::{MOST_BYTES, MOST_WORDS};
 use requests::{lent, text, zeros};
 
@@ -21,10 +21,7 @@ pub(crate) fn read_frame(list: &[u8], size: u32, out: &mut Output<'_, impl Print
             write!(out, "{width:x} {nodes:x}");
             out.put_written(lent::words_of(nodes, places), places);
         }
-        Err(r) => {
-            write!(out, "{}", Refused(r));
-            out.put_untouched(places);
-        }
+        Err(r) => out.put_refused(r, places),
     }
     Some(())
 }
@@ -45,10 +42,7 @@ pub(crate) fn write_frame(
             write!(out, "{bytes:x}");
             out.put_written(bytes, places);
         }
-        Err(r) => {
-            write!(out, "{}", Refused(r));
-            out.put_untouched(places);
-        }
+        Err(r) => out.put_refused(r, places),
     }
     Some(())
 }

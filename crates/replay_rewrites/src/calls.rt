@@ -1,7 +1,7 @@
 // The calls, and what they leave in the places that they are lent.
 use atom_simplifier::FoundSite;
 use expr::refusal::Refusal;
-use requests::output::{Output, Refused};
+use requests::output::Output;
 use requests::times::Call;
 use requests::{lent, times};
 
@@ -35,10 +35,7 @@ impl Local<'_, '_> {
                 out.put(b"none");
                 out.put_untouched(places);
             }
-            Err(r) => {
-                write!(out, "{}", Refused(r));
-                out.put_untouched(places);
-            }
+            Err(r) => out.put_refused(r, places),
         }
     }
 }
@@ -74,11 +71,12 @@ impl Site<'_, '_> {
             Ok(Some(site)) => put_found(site, path, places, out),
             Ok(None) => {
                 out.put(b"none");
-                put_both_untouched(path, places, out);
+                out.put_untouched(path);
+                out.put_kept(places, 0);
             }
             Err(r) => {
-                write!(out, "{}", Refused(r));
-                put_both_untouched(path, places, out);
+                out.put_refused(r, path);
+                out.put_kept(places, 0);
             }
         }
     }
@@ -94,10 +92,4 @@ fn put_found(site: FoundSite, path: &[u8], places: &[u64], out: &mut Output<'_, 
     out.put(b" /");
     out.put_kept(path, steps);
     out.put_kept(places, taken);
-}
-
-// Whether all places hold their marks.
-fn put_both_untouched(path: &[u8], places: &[u64], out: &mut Output<'_, impl Print>) {
-    out.put_untouched(path);
-    out.put_kept(places, 0);
 }
