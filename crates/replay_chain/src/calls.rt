@@ -1,4 +1,6 @@
 // The call, and what it leaves in the words that it is lent.
+ghost use Rattle.std.specs.Prelude.{◌≡◌, length};
+
 use atom_simplifier::chain;
 use atom_simplifier::chain::ChainEnd;
 use expr::refusal::Refusal;
@@ -25,7 +27,9 @@ impl Call for Chain<'_, '_> {
 
 impl Chain<'_, '_> {
     // What the last of so many calls gives and leaves.
-    pub(crate) fn put(mut self, count: u32, out: &mut Output<'_, impl Print>) {
+    pub(crate) fn put(mut self, count: u32, out: &mut Output<'_, impl Print>)
+        ensures { length out.new.buffer.now ≡ length out.old.buffer.now }
+    {
         let outcome = times::last_of(count, &mut self);
         let work = self.work;
         match outcome {
@@ -36,7 +40,9 @@ impl Chain<'_, '_> {
 }
 
 // The end tree, and whether the words behind it are 0.
-fn put_end(end: ChainEnd, work: &[u64], out: &mut Output<'_, impl Print>) {
+fn put_end(end: ChainEnd, work: &[u64], out: &mut Output<'_, impl Print>)
+    ensures { length out.new.buffer.now ≡ length out.old.buffer.now }
+{
     let taken = lent::words_of(end.nodes, work);
     write!(out, "{:x} {:x}", end.nodes, end.rewrites);
     out.put_list(&work[..taken]);

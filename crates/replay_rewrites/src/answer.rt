@@ -1,4 +1,6 @@
 // The answer to a request, by the call that it names.
+ghost use Rattle.std.specs.Prelude.{◌≡◌, length};
+
 use crate::calls::{Local, Site};
 use requests::output::Output;
 use requests::replay::Answers;
@@ -39,7 +41,9 @@ fn put_local(
     size: u32,
     count: u32,
     out: &mut Output<'_, impl Print>,
-) -> Option<()> {
+) -> Option<()>
+    ensures { length out.new.buffer.now ≡ length out.old.buffer.now }
+{
     let mut room = [0u64; MOST_WORDS];
     let local = Local {
         words,
@@ -58,7 +62,9 @@ fn put_site(
     bytes: u32,
     count: u32,
     out: &mut Output<'_, impl Print>,
-) -> Option<()> {
+) -> Option<()>
+    ensures { length out.new.buffer.now ≡ length out.old.buffer.now }
+{
     let mut room = [0u64; MOST_WORDS];
     let mut way = [0u8; MOST_PATH];
     let site = Site {

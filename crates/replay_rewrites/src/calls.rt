@@ -1,4 +1,6 @@
 // The calls, and what they leave in the places that they are lent.
+ghost use Rattle.std.specs.Prelude.{◌≡◌, length};
+
 use atom_simplifier::FoundSite;
 use expr::refusal::Refusal;
 use requests::output::Output;
@@ -23,7 +25,9 @@ impl Call for Local<'_, '_> {
 
 impl Local<'_, '_> {
     // What the last of so many calls gives and leaves.
-    pub(crate) fn put(mut self, count: u32, out: &mut Output<'_, impl Print>) {
+    pub(crate) fn put(mut self, count: u32, out: &mut Output<'_, impl Print>)
+        ensures { length out.new.buffer.now ≡ length out.old.buffer.now }
+    {
         let rewritten = times::last_of(count, &mut self);
         let places = self.places;
         match rewritten {
@@ -64,7 +68,9 @@ impl Call for Site<'_, '_> {
 
 impl Site<'_, '_> {
     // What the last of so many calls gives and leaves.
-    pub(crate) fn put(mut self, count: u32, out: &mut Output<'_, impl Print>) {
+    pub(crate) fn put(mut self, count: u32, out: &mut Output<'_, impl Print>)
+        ensures { length out.new.buffer.now ≡ length out.old.buffer.now }
+    {
         let found = times::last_of(count, &mut self);
         let Site { path, places, .. } = self;
         match found {
@@ -83,7 +89,9 @@ impl Site<'_, '_> {
 }
 
 // The path and the words, and whether the places behind each hold their marks.
-fn put_found(site: FoundSite, path: &[u8], places: &[u64], out: &mut Output<'_, impl Print>) {
+fn put_found(site: FoundSite, path: &[u8], places: &[u64], out: &mut Output<'_, impl Print>)
+    ensures { length out.new.buffer.now ≡ length out.old.buffer.now }
+{
     let steps = site.path.min(path.len());
     let taken = lent::words_of(site.nodes, places);
     write!(out, "{:x} {:x}", site.path, site.nodes);
