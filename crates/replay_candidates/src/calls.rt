@@ -1,7 +1,9 @@
 // The call, and what it leaves in the words that it is lent.
+ghost use Rattle.std.specs.Prelude.{◌≡◌, length};
+
 use atom_identity_rewrite::Found;
 use expr::refusal::Refusal;
-use requests::output::{Output, Refused};
+use requests::output::Output;
 use requests::times::Call;
 use requests::{lent, times};
 
@@ -24,7 +26,9 @@ impl Call for Candidate<'_, '_> {
 
 impl Candidate<'_, '_> {
     // What the last of so many calls gives and leaves.
-    pub(crate) fn put(mut self, count: u32, out: &mut Output<'_, impl Print>) {
+    pub(crate) fn put(mut self, count: u32, out: &mut Output<'_, impl Print>)
+        ensures { length out.new.buffer.now ≡ length out.old.buffer.now }
+    {
         let found = times::last_of(count, &mut self);
         let places = self.places;
         match found {
@@ -36,10 +40,7 @@ impl Candidate<'_, '_> {
                 write!(out, "none {passed:x}");
                 out.put_untouched(places);
             }
-            Err(r) => {
-                write!(out, "{}", Refused(r));
-                out.put_untouched(places);
-            }
+            Err(r) => out.put_refused(r, places),
         }
     }
 }

@@ -1,8 +1,10 @@
 // The call, and what it leaves in the words that it is lent.
+ghost use Rattle.std.specs.Prelude.{◌≡◌, length};
+
 use atom_simplifier::chain;
 use atom_simplifier::chain::ChainEnd;
 use expr::refusal::Refusal;
-use requests::output::{Output, Refused};
+use requests::output::Output;
 use requests::times::Call;
 use requests::{lent, times};
 
@@ -25,30 +27,25 @@ impl Call for Chain<'_, '_> {
 
 impl Chain<'_, '_> {
     // What the last of so many calls gives and leaves.
-    pub(crate) fn put(mut self, count: u32, out: &mut Output<'_, impl Print>) {
+    pub(crate) fn put(mut self, count: u32, out: &mut Output<'_, impl Print>)
+        ensures { length out.new.buffer.now ≡ length out.old.buffer.now }
+    {
         let outcome = times::last_of(count, &mut self);
         let work = self.work;
         match outcome {
             Ok(end) => put_end(end, work, out),
-            Err(r) => {
-                write!(out, "{}", Refused(r));
-                out.put_untouched(work);
-            }
+            Err(r) => out.put_refused(r, work),
         }
     }
 }
 
 // The end tree, and whether the words behind it are 0.
-fn put_end(end: ChainEnd, work: &[u64], out: &mut Output<'_, impl Print>) {
+fn put_end(end: ChainEnd, work: &[u64], out: &mut Output<'_, impl Print>)
+    ensures { length out.new.buffer.now ≡ length out.old.buffer.now }
+{
     let taken = lent::words_of(end.nodes, work);
-    let nonzero = work
-        .iter()
-        .enumerate()
-        .skip(taken)
-        .find(|(_, word)| **word != 0)
-        .map(|(place, _)| place);
     write!(out, "{:x} {:x}", end.nodes, end.rewrites);
     out.put_list(&work[..taken]);
     out.put(b" /");
-    out.put_place(nonzero, "zero");
+    out.put_zero(work, taken);
 }

@@ -1,4 +1,6 @@
 // The answer to a request, by the call that it names.
+ghost use Rattle.std.specs.Prelude.{◌≡◌, length};
+
 use crate::{chunks, digits, frames, trees};
 use requests::output::Output;
 use requests::replay::Answers;
@@ -27,7 +29,9 @@ impl Answers for Frames {
 }
 
 // The text of a list that is all the request has.
-fn of_one_list(name: &[u8], list: &[u8], out: &mut Output<'_, impl Print>) -> Option<()> {
+fn of_one_list(name: &[u8], list: &[u8], out: &mut Output<'_, impl Print>) -> Option<()>
+    ensures { length out.new.buffer.now ≡ length out.old.buffer.now }
+{
     match name {
         b"number" => digits::number(list, out),
         b"end_of" => chunks::end_of(list, out),
@@ -35,7 +39,9 @@ fn of_one_list(name: &[u8], list: &[u8], out: &mut Output<'_, impl Print>) -> Op
     }
 }
 
-fn of_numbers(name: &[u8], list: &[u8], out: &mut Output<'_, impl Print>) -> Option<()> {
+fn of_numbers(name: &[u8], list: &[u8], out: &mut Output<'_, impl Print>) -> Option<()>
+    ensures { length out.new.buffer.now ≡ length out.old.buffer.now }
+{
     let mut room = [0u64; 3];
     match (name, text::numbers_in(list, &mut room)?) {
         (b"nodes_in", [bytes]) => frames::nodes_in(*bytes, out),

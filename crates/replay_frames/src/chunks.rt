@@ -1,10 +1,14 @@
 // Requests to `lines`.
+ghost use Rattle.std.specs.Prelude.{◌≡◌, length};
+
 use requests::output::Output;
 use requests::text::MOST_BYTES;
 use requests::{lent, text, zeros};
 
 // The text of a chunk.
-pub(crate) fn end_of(list: &[u8], out: &mut Output<'_, impl Print>) -> Option<()> {
+pub(crate) fn end_of(list: &[u8], out: &mut Output<'_, impl Print>) -> Option<()>
+    ensures { length out.new.buffer.now ≡ length out.old.buffer.now }
+{
     let mut room = zeros::<u8, MOST_BYTES>();
     let end = lines::end_of(text::numbers_in(list, &mut room)?);
     write!(out, "{end:x}");
@@ -17,7 +21,9 @@ pub(crate) fn keep(
     kept: u32,
     size: u32,
     out: &mut Output<'_, impl Print>,
-) -> Option<()> {
+) -> Option<()>
+    ensures { length out.new.buffer.now ≡ length out.old.buffer.now }
+{
     let (start, chunk) = text::first_list(lists)?;
     let mut line_room = zeros::<u8, MOST_BYTES>();
     let mut chunk_room = zeros::<u8, MOST_BYTES>();

@@ -1,10 +1,14 @@
 // Requests to `hexadecimal`.
+ghost use Rattle.std.specs.Prelude.{◌≡◌, length};
+
 use requests::output::Output;
 use requests::text::{MOST_BYTES, MOST_WORDS};
 use requests::{lent, text, zeros};
 
 // The text of the digits.
-pub(crate) fn number(list: &[u8], out: &mut Output<'_, impl Print>) -> Option<()> {
+pub(crate) fn number(list: &[u8], out: &mut Output<'_, impl Print>) -> Option<()>
+    ensures { length out.new.buffer.now ≡ length out.old.buffer.now }
+{
     let mut room = zeros::<u8, MOST_BYTES>();
     let parsed = hexadecimal::number(text::numbers_in(list, &mut room)?);
     write!(out, "{:x} {:x}", parsed.value, u8::from(parsed.good));
@@ -17,7 +21,9 @@ pub(crate) fn put_digits(
     count: u64,
     size: u64,
     out: &mut Output<'_, impl Print>,
-) -> Option<()> {
+) -> Option<()>
+    ensures { length out.new.buffer.now ≡ length out.old.buffer.now }
+{
     // the number of digits has 32 bits in a request
     let count = usize::try_from(u32::try_from(count).ok()?).ok()?;
     let mut room = zeros::<u8, MOST_BYTES>();
@@ -29,7 +35,9 @@ pub(crate) fn put_digits(
 }
 
 // All digits of a number, lent so many bytes.
-pub(crate) fn put_number(n: u64, size: u64, out: &mut Output<'_, impl Print>) -> Option<()> {
+pub(crate) fn put_number(n: u64, size: u64, out: &mut Output<'_, impl Print>) -> Option<()>
+    ensures { length out.new.buffer.now ≡ length out.old.buffer.now }
+{
     let mut room = zeros::<u8, MOST_BYTES>();
     let places = lent::lend(&mut room, u32::try_from(size).ok()?)?;
     let count = hexadecimal::put_number(n, places);
@@ -39,7 +47,9 @@ pub(crate) fn put_number(n: u64, size: u64, out: &mut Output<'_, impl Print>) ->
 }
 
 // The text of the digits of nodes, and so many words.
-pub(crate) fn read_nodes(list: &[u8], size: u32, out: &mut Output<'_, impl Print>) -> Option<()> {
+pub(crate) fn read_nodes(list: &[u8], size: u32, out: &mut Output<'_, impl Print>) -> Option<()>
+    ensures { length out.new.buffer.now ≡ length out.old.buffer.now }
+{
     let mut from = zeros::<u8, MOST_BYTES>();
     let mut to = [0u64; MOST_WORDS];
     let bytes = text::numbers_in(list, &mut from)?;
@@ -52,7 +62,9 @@ pub(crate) fn read_nodes(list: &[u8], size: u32, out: &mut Output<'_, impl Print
 }
 
 // The text of the words of nodes, and so many bytes.
-pub(crate) fn put_nodes(list: &[u8], size: u32, out: &mut Output<'_, impl Print>) -> Option<()> {
+pub(crate) fn put_nodes(list: &[u8], size: u32, out: &mut Output<'_, impl Print>) -> Option<()>
+    ensures { length out.new.buffer.now ≡ length out.old.buffer.now }
+{
     let mut from = [0u64; MOST_WORDS];
     let mut to = zeros::<u8, MOST_BYTES>();
     let words = text::numbers_in(list, &mut from)?;

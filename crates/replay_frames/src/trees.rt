@@ -1,14 +1,14 @@
 // Requests to `expr` and `width`.
+ghost use Rattle.std.specs.Prelude.{◌≡◌, length};
+
 use requests::output::{Output, Refused};
 use requests::text::MOST_WORDS;
 use requests::{lent, text};
 
 // The text of the words.
-pub(crate) fn check_tree_at(
-    list: &[u8],
-    width: u32,
-    out: &mut Output<'_, impl Print>,
-) -> Option<()> {
+pub(crate) fn check_tree_at(list: &[u8], width: u32, out: &mut Output<'_, impl Print>) -> Option<()>
+    ensures { length out.new.buffer.now ≡ length out.old.buffer.now }
+{
     let mut room = [0u64; MOST_WORDS];
     let words = text::numbers_in(list, &mut room)?;
     match width::check_tree_at(words, width) {
@@ -19,7 +19,9 @@ pub(crate) fn check_tree_at(
 }
 
 // The text of words that are copied to so many.
-pub(crate) fn copy_words(list: &[u8], size: u32, out: &mut Output<'_, impl Print>) -> Option<()> {
+pub(crate) fn copy_words(list: &[u8], size: u32, out: &mut Output<'_, impl Print>) -> Option<()>
+    ensures { length out.new.buffer.now ≡ length out.old.buffer.now }
+{
     let mut from = [0u64; MOST_WORDS];
     let mut to = [0u64; MOST_WORDS];
     let words = text::numbers_in(list, &mut from)?;

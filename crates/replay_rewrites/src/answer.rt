@@ -1,4 +1,6 @@
 // The answer to a request, by the call that it names.
+ghost use Rattle.std.specs.Prelude.{◌≡◌, length};
+
 use crate::calls::{Local, Site};
 use requests::output::Output;
 use requests::replay::Answers;
@@ -16,38 +18,61 @@ impl Answers for Rewrites {
         let (numbers, words) = text::first_list(lists)?;
         let mut number_room = [0u32; 4];
         let mut word_room = [0u64; MOST_WORDS];
-        let mut room = [0u64; MOST_WORDS];
-        let mut way = [0u8; MOST_PATH];
         let numbers = text::numbers_in(numbers, &mut number_room)?;
         let words = text::numbers_in(words, &mut word_room)?;
-        let (numbers, count) = match (name, numbers) {
-            (b"local" | b"site", _) => (numbers, 1),
-            (b"local_times" | b"site_times", [numbers @ .., count]) => (numbers, *count),
-            _ => return None,
-        };
         match (name, numbers) {
-            (b"local" | b"local_times", [width, size]) => {
-                let places = lent::lend(&mut room, *size)?;
-                Local {
-                    words,
-                    width: *width,
-                    places,
-                }
-                .put(count, out);
+            (b"local", [width, size]) => put_local(words, *width, *size, 1, out),
+            (b"local_times", [width, size, count]) => {
+                put_local(words, *width, *size, *count, out)
             }
-            (b"site" | b"site_times", [width, size, bytes]) => {
-                let places = lent::lend(&mut room, *size)?;
-                let path = lent::lend(&mut way, *bytes)?;
-                Site {
-                    words,
-                    width: *width,
-                    path,
-                    places,
-                }
-                .put(count, out);
+            (b"site", [width, size, bytes]) => put_site(words, *width, *size, *bytes, 1, out),
+            (b"site_times", [width, size, bytes, count]) => {
+                put_site(words, *width, *size, *bytes, *count, out)
             }
-            _ => return None,
+            _ => None,
         }
-        Some(())
     }
+}
+
+// So many calls that are lent so many words.
+fn put_local(
+    words: &[u64],
+    width: u32,
+    size: u32,
+    count: u32,
+    out: &mut Output<'_, impl Print>,
+) -> Option<()>
+    ensures { length out.new.buffer.now ≡ length out.old.buffer.now }
+{
+    let mut room = [0u64; MOST_WORDS];
+    let local = Local {
+        words,
+        width,
+        places: lent::lend(&mut room, size)?,
+    };
+    local.put(count, out);
+    Some(())
+}
+
+// So many calls that are lent so many words, and bytes for a path.
+fn put_site(
+    words: &[u64],
+    width: u32,
+    size: u32,
+    bytes: u32,
+    count: u32,
+    out: &mut Output<'_, impl Print>,
+) -> Option<()>
+    ensures { length out.new.buffer.now ≡ length out.old.buffer.now }
+{
+    let mut room = [0u64; MOST_WORDS];
+    let mut way = [0u8; MOST_PATH];
+    let site = Site {
+        words,
+        width,
+        path: lent::lend(&mut way, bytes)?,
+        places: lent::lend(&mut room, size)?,
+    };
+    site.put(count, out);
+    Some(())
 }

@@ -1,7 +1,9 @@
 // The calls, and what they leave in the places that they are lent.
+ghost use Rattle.std.specs.Prelude.{◌≡◌, length};
+
 use atom_simplifier::FoundSite;
 use expr::refusal::Refusal;
-use requests::output::{Output, Refused};
+use requests::output::Output;
 use requests::times::Call;
 use requests::{lent, times};
 
@@ -23,7 +25,9 @@ impl Call for Local<'_, '_> {
 
 impl Local<'_, '_> {
     // What the last of so many calls gives and leaves.
-    pub(crate) fn put(mut self, count: u32, out: &mut Output<'_, impl Print>) {
+    pub(crate) fn put(mut self, count: u32, out: &mut Output<'_, impl Print>)
+        ensures { length out.new.buffer.now ≡ length out.old.buffer.now }
+    {
         let rewritten = times::last_of(count, &mut self);
         let places = self.places;
         match rewritten {
@@ -35,10 +39,7 @@ impl Local<'_, '_> {
                 out.put(b"none");
                 out.put_untouched(places);
             }
-            Err(r) => {
-                write!(out, "{}", Refused(r));
-                out.put_untouched(places);
-            }
+            Err(r) => out.put_refused(r, places),
         }
     }
 }
@@ -67,25 +68,30 @@ impl Call for Site<'_, '_> {
 
 impl Site<'_, '_> {
     // What the last of so many calls gives and leaves.
-    pub(crate) fn put(mut self, count: u32, out: &mut Output<'_, impl Print>) {
+    pub(crate) fn put(mut self, count: u32, out: &mut Output<'_, impl Print>)
+        ensures { length out.new.buffer.now ≡ length out.old.buffer.now }
+    {
         let found = times::last_of(count, &mut self);
         let Site { path, places, .. } = self;
         match found {
             Ok(Some(site)) => put_found(site, path, places, out),
             Ok(None) => {
                 out.put(b"none");
-                put_both_untouched(path, places, out);
+                out.put_untouched(path);
+                out.put_kept(places, 0);
             }
             Err(r) => {
-                write!(out, "{}", Refused(r));
-                put_both_untouched(path, places, out);
+                out.put_refused(r, path);
+                out.put_kept(places, 0);
             }
         }
     }
 }
 
 // The path and the words, and whether the places behind each hold their marks.
-fn put_found(site: FoundSite, path: &[u8], places: &[u64], out: &mut Output<'_, impl Print>) {
+fn put_found(site: FoundSite, path: &[u8], places: &[u64], out: &mut Output<'_, impl Print>)
+    ensures { length out.new.buffer.now ≡ length out.old.buffer.now }
+{
     let steps = site.path.min(path.len());
     let taken = lent::words_of(site.nodes, places);
     write!(out, "{:x} {:x}", site.path, site.nodes);
@@ -94,10 +100,4 @@ fn put_found(site: FoundSite, path: &[u8], places: &[u64], out: &mut Output<'_, 
     out.put(b" /");
     out.put_kept(path, steps);
     out.put_kept(places, taken);
-}
-
-// Whether all places hold their marks.
-fn put_both_untouched(path: &[u8], places: &[u64], out: &mut Output<'_, impl Print>) {
-    out.put_untouched(path);
-    out.put_kept(places, 0);
 }

@@ -9,9 +9,12 @@ pub fn read_full<R: Read>(reader: &mut R, buf: &mut [u8]) -> usize
     ensures fits { result ≤ length buf.new }
     ensures bytes { Consumes (R.remaining reader.old) (R.remaining reader.new) (take result buf.new) }
 {
-    // by `while`: no `for` has a number of turns here, and the library's `read_to_end` needs the heap; where `buf` is full, a read gives 0
     let mut done = 0;
-    while let Ok(n @ 1..) = reader.read(&mut buf[done..]) {
+    // each turn reads at least a byte, or it is the last
+    for _ in 0..buf.len() {
+        let Ok(n @ 1..) = reader.read(&mut buf[done..]) else {
+            break;
+        };
         done += n;
     }
     done

@@ -2,7 +2,8 @@
 ghost use Rattle.std.specs.Prelude.{◌≡◌, ◌*◌, min, length, ℕ, IfSome};
 ghost use Rattle.requests.specs.Lent.{word_mark, byte_mark, Marked};
 
-use crate::output::Output;
+use crate::output::{Output, Refused};
+use expr::refusal::Refusal;
 
 // What a lent place holds.
 pub trait Place: Copy + PartialEq + Into<u64> {
@@ -49,14 +50,11 @@ pub fn lend<T: Place>(room: &mut [T], size: u32) -> Option<&mut [T]>
     Some(places)
 }
 
-// The first place from `from` on whose mark is gone.
-fn changed<T: Place>(places: &[T], from: usize) -> Option<usize> {
-    places
-        .iter()
-        .enumerate()
-        .skip(from)
-        .find(|(i, place)| **place != T::mark(*i))
-        .map(|(i, _)| i)
+// The first place from `from` on that is `other` than it should be.
+fn first_other<T, F: Fn(usize, &T) -> bool>(places: &[T], from: usize, other: F) -> Option<usize>
+    requires { F.IsAlwaysCallable other }
+{
+    (from..places.len()).find(|i| other(*i, &places[*i]))
 }
 
 // The number of words of so many nodes, as far as they are lent.
@@ -92,7 +90,16 @@ impl<P: Print> Output<'_, P> {
     pub fn put_kept<T: Place>(&mut self, places: &[T], from: usize)
         ensures { length self.new.buffer.now ≡ length self.old.buffer.now }
     {
-        self.put_place(changed(places, from), "kept");
+        let changed = first_other(places, from, |i, place| *place != T::mark(i));
+        self.put_place(changed, "kept");
+    }
+
+    // Whether the words from `from` on are 0.
+    pub fn put_zero(&mut self, words: &[u64], from: usize)
+        ensures { length self.new.buffer.now ≡ length self.old.buffer.now }
+    {
+        let nonzero = first_other(words, from, |_, word| *word != 0);
+        self.put_place(nonzero, "zero");
     }
 
     // So many values, and whether the places behind them hold their marks.
@@ -111,5 +118,13 @@ impl<P: Print> Output<'_, P> {
     {
         self.put(b" /");
         self.put_kept(places, 0);
+    }
+
+    // A refusal, and whether all places hold their marks.
+    pub fn put_refused<T: Place>(&mut self, refusal: Refusal, places: &[T])
+        ensures { length self.new.buffer.now ≡ length self.old.buffer.now }
+    {
+        write!(self, "{}", Refused(refusal));
+        self.put_untouched(places);
     }
 }

@@ -1,5 +1,5 @@
 // A program that answers the requests on its input.
-ghost use Rattle.std.specs.Prelude.{◌≤◌, List, ℕ, length};
+ghost use Rattle.std.specs.Prelude.{◌≡◌, ◌≤◌, List, ℕ, length};
 ghost use Rattle.std.specs.Io.KnownBytes.{Consumes};
 
 use crate::input::read_full;
@@ -10,7 +10,8 @@ use std::io::Read;
 // What a program answers. A trait, so that `replay` asks nothing: of a closure it would ask that it can be called.
 pub trait Answers {
     // Writes the answer to a request. `None` where the line is no request; nothing is written then.
-    fn answer<P: Print>(line: &[u8], out: &mut Output<'_, P>) -> Option<()>;
+    fn answer<P: Print>(line: &[u8], out: &mut Output<'_, P>) -> Option<()>
+        ensures { length out.new.buffer.now ≡ length out.old.buffer.now };
 }
 
 // Answers the requests of a reader, one a line (oracle/README.md has their grammar): writes the line, ` = ` and its answer. The line is written
@@ -33,7 +34,9 @@ pub fn replay<A: Answers, P: Print, R: Read>(rt: &P, reader: &mut R)
 }
 
 // A last line without its end gets a line `?` alone, so that a list that is cut short or has bytes added to it does not match.
-fn put_line<A: Answers, P: Print>(out: &mut Output<'_, P>, line: &[u8]) {
+fn put_line<A: Answers, P: Print>(out: &mut Output<'_, P>, line: &[u8])
+    ensures { length out.new.buffer.now ≡ length out.old.buffer.now }
+{
     let Some(request) = line.strip_suffix(b"\n") else {
         out.put(b"?\n");
         return;

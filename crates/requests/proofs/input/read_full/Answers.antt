@@ -21,15 +21,15 @@ put_there a k n xs ys within fits =
     ap (take ((a + n) - a)) (drop_at (take a xs) (ys ++ after) a (length-take-le a xs within)) ∙ ap (λ m. take m (ys ++ after)) same
     ∙ take-append-le n ys after fits
 
-pub loop-n-preserved : goal.loop-n-preserved
-loop-n-preserved g c =
-    let from = c.loop-n.done in
-    let room = length c.loop-n.buf - from in
-    let within = c.loop-n.invariant.0 in
-    let part = put_there from room c.in-Ok-1-to-max.n c.loop-n.buf c.read.new.buf within c.in-Ok-1-to-max.ensures.bound.0 in
-    let joined = split_at from (from + c.in-Ok-1-to-max.n) c.loop-n.buf (put_mid from room c.loop-n.buf c.read.new.buf) (omega arith)
+pub loop-preserved : goal.loop-preserved
+loop-preserved g c =
+    let from = c.loop.done in
+    let room = length c.loop.buf - from in
+    let within = c.loop.invariant.0 in
+    let part = put_there from room c.in-Ok-1-to-max.n c.loop.buf c.read.new.buf within c.in-Ok-1-to-max.ensures.bound.0 in
+    let joined = split_at from (from + c.in-Ok-1-to-max.n) c.loop.buf (put_mid from room c.loop.buf c.read.new.buf) (omega arith)
     (take-put_mid_below _ _ _ _ _ (le_refl _) within) in (
       search rules,
-      subst (Consumes _ _) (ap (λ l. take from c.loop-n.buf ++ l) (sym part) ∙ joined)
-          (Consumes-trans _ _ _ _ _ c.loop-n.invariant.1 c.in-Ok-1-to-max.ensures.bytes.0),
+      subst (Consumes _ _) (ap (λ l. take from c.loop.buf ++ l) (sym part) ∙ joined)
+          (Consumes-trans _ _ _ _ _ c.loop.invariant.1 c.in-Ok-1-to-max.ensures.bytes.0),
     )
