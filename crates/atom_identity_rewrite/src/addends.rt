@@ -135,6 +135,7 @@ pub(crate) fn read_addends<'a, S, F: Fn(S, SignedTree<'a>) -> S>(
     ensures { Folded (F.post read) start (flatten_addends (tree_at all.now.node.words.now)) result }
 {
     let n = all.count;
+    // what is lent: an array again, as memory is fixed
     let mut list = [Addend::default(); 256];
     fill(&mut list, all);
     scan(all.node, &list[0..n], start, read)
