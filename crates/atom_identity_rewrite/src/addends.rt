@@ -1,5 +1,5 @@
-// The addends of a sum. Memory is fixed: they are gathered in an array by value, and read from there.
-ghost use Rattle.std.specs.Prelude.{◌≡◌, ◌≤◌, length, take};
+// The addends of a sum. Memory is fixed: they are gathered in an array by value, which one function copies into a lent list and another reads.
+ghost use Rattle.std.specs.Prelude.{◌≡◌, ◌++◌, ◌≤◌, length, take, drop};
 ghost use Rattle.expr.specs.Front.{tree_at};
 ghost use Rattle.rewriting.specs.AtomIdentityRewrite.{flatten_addends};
 ghost use Rattle.atom_identity_rewrite.specs.Places.{AddendsAre};
@@ -80,6 +80,15 @@ pub(crate) fn flatten_addends<'a>(node: Tree<'a>) -> Addends<'a>
     Addends { node, list, count }
 }
 
+// The only function that fills the lent list: it copies the addends that are in use to its front.
+fn fill(out: &mut [Addend], all: &Addends<'_>)
+    requires { all.now.count ≤ length out.old }
+    ensures { out.new ≡ take all.now.count all.now.list ++ drop all.now.count out.old }
+{
+    let n = all.count;
+    out[0..n].copy_from_slice(&all.list[0..n]);
+}
+
 // The addend's own subtree.
 #[tactic(auto, using(crate::proofs::ScanLaws::places))]
 fn signed_tree<'a>(sum: Tree<'a>, a: Addend) -> SignedTree<'a>
@@ -96,7 +105,7 @@ fn signed_tree<'a>(sum: Tree<'a>, a: Addend) -> SignedTree<'a>
     }
 }
 
-// Hands the addends of the list to `read`, one after the other.
+// The only function that reads the lent list: it hands its addends to `read`, one after the other.
 #[tactic(auto, using(crate::proofs::ScanLaws::named_one, crate::proofs::ScanLaws::none_read, crate::proofs::ScanLaws::read_on))]
 fn scan<'a, S, F: Fn(S, SignedTree<'a>) -> S>(
     sum: Tree<'a>,
@@ -116,7 +125,7 @@ fn scan<'a, S, F: Fn(S, SignedTree<'a>) -> S>(
     state
 }
 
-// What reading the addends makes of `start`.
+// What reading the addends makes of `start`. The list is lent to `fill` and then to `scan`.
 pub(crate) fn read_addends<'a, S, F: Fn(S, SignedTree<'a>) -> S>(
     all: &Addends<'a>,
     start: S,
@@ -125,5 +134,8 @@ pub(crate) fn read_addends<'a, S, F: Fn(S, SignedTree<'a>) -> S>(
     requires { F.IsAlwaysCallable read }
     ensures { Folded (F.post read) start (flatten_addends (tree_at all.now.node.words.now)) result }
 {
-    scan(all.node, &all.list[..all.count], start, read)
+    let n = all.count;
+    let mut list = [Addend::default(); 256];
+    fill(&mut list, all);
+    scan(all.node, &list[0..n], start, read)
 }
