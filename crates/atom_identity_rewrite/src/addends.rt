@@ -9,8 +9,7 @@ ghost use Rattle.atom_identity_rewrite.specs.Promises.{addend_of, placed_addend,
 use expr::kind;
 use expr::tree::Tree;
 
-// The place of an addend's subtree in the words of the sum, and whether it is subtracted. Not a `SignedTree`: it is no plainer, as an array of those has
-// to begin with 256 copies of a tree that is no addend; a place has a default.
+// The place of an addend's subtree in the words of the sum, and whether it is subtracted: a record of start, length and sign, as document 01 asks.
 #[derive(Clone, Copy, Default)]
 pub(crate) struct Addend {
     pub start: usize,
@@ -125,7 +124,8 @@ fn scan<'a, S, F: Fn(S, SignedTree<'a>) -> S>(
     state
 }
 
-// What reading the addends makes of `start`. The list is lent to `fill` and then to `scan`.
+// What reading the addends makes of `start`. The list is lent to `fill` and then to `scan`: document 01 asks for a lent list that one function fills and
+// another reads.
 pub(crate) fn read_addends<'a, S, F: Fn(S, SignedTree<'a>) -> S>(
     all: &Addends<'a>,
     start: S,
@@ -135,7 +135,6 @@ pub(crate) fn read_addends<'a, S, F: Fn(S, SignedTree<'a>) -> S>(
     ensures { Folded (F.post read) start (flatten_addends (tree_at all.now.node.words.now)) result }
 {
     let n = all.count;
-    // what is lent: an array again, as memory is fixed
     let mut list = [Addend::default(); 256];
     fill(&mut list, all);
     scan(all.node, &list[0..n], start, read)
