@@ -1,5 +1,5 @@
 -- `frame::decode` meets its contract. Assumes nothing.
-use Rattle.std.proofs.Common.{arith}
+use Rattle.std.proofs.Common.{◌≤◌, length, arith}
 use borrow.Author.Rules.{rules}
 use Rattle.frame.proofs.ReadLaws.{decoding, digits_read}
 use Rattle.frame.proofs.decode.Goals as goal
@@ -23,4 +23,5 @@ overflow_cast-width c = search laws
 
 pub returns-clause-reads : goal.returns-clause-reads
 returns-clause-reads c =
-    digits_read _ _ c.in_ok-nodes.ensures _ c.number-width.ensures _ (omega arith) _ c.read_nodes-good.ensures.good _ c.then_some.ensures _ c.read_nodes-good.ensures.written
+    let room : 1024 ≤ length c.args.words.now = omega arith in
+    digits_read _ _ c.in_ok-nodes.ensures _ c.number-width.ensures _ room _ c.read_nodes-good.ensures.good _ c.then_some.ensures _ c.read_nodes-good.ensures.written
