@@ -7,6 +7,7 @@ use std::fmt;
 pub(crate) enum Answer {
     Value(u64),
     Cost(CostInfo),
+    // `validate_widths` gives `()`, for which the stored lists have the word `valid`
     Valid,
 }
 
@@ -30,6 +31,7 @@ impl fmt::Display for Answer {
     }
 }
 
+// One impl for each type: `impl<T: Into<u64>>` conflicts with those of `CostInfo` and `()`, and neither `usize` nor `Arity` is `Into<u64>`.
 impl From<u64> for Answer {
     fn from(n: u64) -> Answer {
         Answer::Value(n)

@@ -40,6 +40,7 @@ fn outcome_of(line: &[u8]) -> Option<Outcome> {
 }
 
 fn of_one_list(name: &[u8], list: &[u8]) -> Option<Outcome> {
+    // fixed sizes, since no crate uses the heap: the largest request fits
     let mut room = [0u64; MOST_WORDS];
     let words = text::numbers_in(list, &mut room)?;
     match (name, words) {

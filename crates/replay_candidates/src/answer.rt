@@ -11,6 +11,7 @@ impl Answers for Candidates {
     fn answer<P: Print>(line: &[u8], out: &mut Output<'_, P>) -> Option<()> {
         let (name, lists) = text::to_space(line);
         let (numbers, words) = text::first_list(lists)?;
+        // fixed sizes, since no crate uses the heap: the largest request fits
         let mut number_room = [0u64; 4];
         let mut word_room = [0u64; MOST_WORDS];
         let mut room = [0u64; MOST_WORDS];

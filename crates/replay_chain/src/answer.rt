@@ -15,6 +15,7 @@ impl Answers for Chains {
         let (name, lists) = text::to_space(line);
         let (numbers, lists) = text::first_list(lists)?;
         let (var_widths, words) = text::first_list(lists)?;
+        // fixed sizes, since no crate uses the heap: the largest request fits
         let mut number_room = [0u32; 3];
         let mut width_room = [0u32; MOST_WORDS];
         let mut word_room = [0u64; MOST_WORDS];

@@ -14,6 +14,7 @@ impl Answers for Frames {
         let Some((first, others)) = text::first_list(lists) else {
             return of_one_list(name, lists, out);
         };
+        // fixed sizes, since no crate uses the heap: the largest request fits
         let mut room = [0u32; 2];
         match (name, text::numbers_in(first, &mut room)?) {
             (b"check_tree_at", [width]) => trees::check_tree_at(others, *width, out),

@@ -9,6 +9,7 @@ use requests::{lent, text, zeros};
 pub(crate) fn number(list: &[u8], out: &mut Output<'_, impl Print>) -> Option<()>
     ensures { length out.new.buffer.now ≡ length out.old.buffer.now }
 {
+    // fixed sizes, since no crate uses the heap: the largest request fits
     let mut room = zeros::<u8, MOST_BYTES>();
     let parsed = hexadecimal::number(text::numbers_in(list, &mut room)?);
     write!(out, "{:x} {:x}", parsed.value, u8::from(parsed.good));

@@ -18,6 +18,7 @@ pub(crate) fn nodes_in(bytes: u64, out: &mut Output<'_, impl Print>) -> Option<(
 pub(crate) fn read_frame(list: &[u8], size: u32, out: &mut Output<'_, impl Print>) -> Option<()>
     ensures { length out.new.buffer.now ≡ length out.old.buffer.now }
 {
+    // fixed sizes, since no crate uses the heap: the largest request fits
     let mut from = zeros::<u8, MOST_BYTES>();
     let mut to = [0u64; MOST_WORDS];
     let line = text::numbers_in(list, &mut from)?;

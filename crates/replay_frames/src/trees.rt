@@ -9,6 +9,7 @@ use requests::{lent, text};
 pub(crate) fn check_tree_at(list: &[u8], width: u32, out: &mut Output<'_, impl Print>) -> Option<()>
     ensures { length out.new.buffer.now ≡ length out.old.buffer.now }
 {
+    // fixed sizes, since no crate uses the heap: the largest request fits
     let mut room = [0u64; MOST_WORDS];
     let words = text::numbers_in(list, &mut room)?;
     match width::check_tree_at(words, width) {

@@ -16,6 +16,7 @@ impl Answers for Rewrites {
     fn answer<P: Print>(line: &[u8], out: &mut Output<'_, P>) -> Option<()> {
         let (name, lists) = text::to_space(line);
         let (numbers, words) = text::first_list(lists)?;
+        // fixed sizes, since no crate uses the heap: the largest request fits
         let mut number_room = [0u32; 4];
         let mut word_room = [0u64; MOST_WORDS];
         let numbers = text::numbers_in(numbers, &mut number_room)?;

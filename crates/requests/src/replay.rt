@@ -9,7 +9,7 @@ use std::io::Read;
 
 // What a program answers. A trait, so that `replay` asks nothing: of a closure it would ask that it can be called.
 pub trait Answers {
-    // Writes the answer to a request. `None` where the line is no request; nothing is written then.
+    // Writes the answer to a request. `None` where the line is no request; nothing is written then. No contract can say what is written.
     fn answer<P: Print>(line: &[u8], out: &mut Output<'_, P>) -> Option<()>
         ensures { length out.new.buffer.now ≡ length out.old.buffer.now };
 }
@@ -19,6 +19,7 @@ pub trait Answers {
 pub fn replay<A: Answers, P: Print, R: Read>(rt: &P, reader: &mut R)
     ensures { (bytes : List ℕ) × (length bytes ≤ 2097152) × Consumes (R.remaining reader.old) (R.remaining reader.new) bytes }
 {
+    // fixed sizes, since no crate uses the heap: more than the longest stored list, which is read whole, and a buffer for many answers
     let mut input = zeros::<u8, 2097152>();
     let n = read_full(reader, &mut input);
     if n == input.len() {

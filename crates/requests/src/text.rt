@@ -1,13 +1,16 @@
 // The fields of a line, and the numbers that they stand for.
 ghost use Rattle.std.specs.Prelude.{◌≡◌, ◌≤◌, ◌<◌, ◌++◌, ◌∷◌, length, slice_index, IfSome};
 
+// The arrays of the test programs have fixed sizes, since no crate uses the heap: each has room for the largest request.
+
 // More than the 1,024 words that a tree may have, so that a request can have too many of them.
 pub const MOST_WORDS: usize = 1100;
 
 // More than the 9,219 bytes of the longest frame.
 pub const MOST_BYTES: usize = 9472;
 
-// The first place where `byte` stands.
+// The first place where `byte` stands. A function, so that the contract is proved once: `position` promises the runs of its closure, and
+// `first_list` needs what they say of this place.
 fn find(text: &[u8], byte: u8) -> Option<usize>
     ensures { IfSome result (λ i. (i < length text.now) × (slice_index text.now i ≡ byte)) }
 {
@@ -31,7 +34,8 @@ pub fn first_list(lists: &[u8]) -> Option<(&[u8], &[u8])>
     Some((first, &lists[slash + 1..]))
 }
 
-// `char::to_digit` and `from_str_radix` take capital letters too.
+// `char::to_digit` and `from_str_radix` take capital letters too, which are no part of a request. `hexadecimal` has such functions, but it is among
+// what the requests test, and a test does not read its list by what it tests.
 fn digit(byte: u8) -> Option<u64> {
     match byte {
         b'0'..=b'9' => Some(u64::from(byte - b'0')),

@@ -7,7 +7,8 @@ ghost use Rattle.std.specs.List.{FoldsTo};
 pub trait Call {
     type Answer: Drop;
 
-    // The call may give this answer and leave this behind. The default says nothing.
+    // The call may give this answer and leave this behind. The default says nothing: a program prints what its calls give, and no contract can say
+    // what is printed.
     ghost gives: { Self → Self.Answer → Self → Type 0 } = { λ _ _ _. ⊤ };
 
     fn call(&mut self) -> Self::Answer
