@@ -18,7 +18,6 @@ use Rattle.expr.specs.Room.{room_for}
 use Rattle.expr.specs.Outcome.{Outcome, refused, accepted, mapped}
 use Rattle.expr.specs.OutcomeLaws.{no_answer}
 use Rattle.expr.specs.Expr.{Expr, leaf, unary, binary, leaf_number, leaf_operand, unary_number, unary_operand, binary_number, encode, nodes}
-use Rattle.expr.specs.ExprLaws.{length_encode}
 use Rattle.expr.specs.Parse as kinds
 use Rattle.expr.specs.Parse.{arity_of, parse}
 use Rattle.expr.specs.ParseLaws.{parse_sound}

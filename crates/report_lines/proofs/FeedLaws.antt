@@ -11,7 +11,7 @@ use lib.Seq.{length-take-le}
 use lib.Dec.{leb}
 use borrow.Author.Tests.{not-true, not-false, leb-true, leb-false}
 use borrow.Rule.Slice.PartMut.{put_mid}
-use Rattle.expr.specs.Parts.{tail, Laid}
+use Rattle.expr.specs.Parts.{tail}
 use Rattle.expr.specs.TailLaws.{tail_drop, length_tail}
 use Rattle.expr.specs.Lent.{over}
 use Rattle.lines.specs.Lines.{last_line, lines_from}
