@@ -35,7 +35,7 @@ impl Answers for Rewrites {
     }
 }
 
-// So many calls that are lent so many words.
+// So many calls that are lent so many words. The numbers of a request, as `put_site` has them: no struct, since they are used here alone.
 fn put_local(
     words: &[u64],
     width: u32,
