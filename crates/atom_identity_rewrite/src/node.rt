@@ -23,7 +23,7 @@ pub(crate) enum Factor {
 pub(crate) fn is_not_of(tree: Tree<'_>, inner: Tree<'_>) -> bool
     ensures { result ≡ is_not_of (tree_of tree.entry) (tree_of inner.entry) }
 {
-    // not `is_some_and`: the check gives a closure that compares trees no contract
+    // tried: `is_some_and`; the check gives a closure that compares trees no contract
     match tree.operand(Unary::Not) {
         Some(operand) => operand.expr_eq(inner),
         None => false,

@@ -109,7 +109,7 @@ pub(crate) fn move_down(ws: &mut [u64], by: usize, len: usize)
     }
 }
 
-// The node's kind over the part of `len` words at `at` and the constant c, in the place of the node.
+// The node's kind over the part of `len` words at `at` and the constant c, in the place of the node: what `write_join` writes, but the words are moved.
 #[tactic(auto, using(crate::proofs::InPlaceLaws::join_moved))]
 fn join_down(node: &mut [u64], at: usize, len: usize, c: u64)
     requires { (2 ≤ at) × (at + len ≤ length node.old) × (4 + len ≤ length node.old) }

@@ -4,8 +4,8 @@ ghost use Rattle.report_lines.specs.Steps.{sound_totals};
 
 use crate::Totals;
 
-// The sums over lines behind which another one is read. Its text's places are no part of it: of a part of a slice that a struct holds the check does
-// not know what it ends as.
+// The sums over lines behind which another one is read. Its text's places are no part of it: tried, and of a part of a slice that a struct holds the check
+// does not know what it ends as.
 #[derive(Clone, Copy)]
 pub(crate) struct Ongoing {
     pub(crate) totals: Totals,

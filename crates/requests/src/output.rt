@@ -5,7 +5,8 @@ ghost use Rattle.requests.specs.Waiting.{waits_then};
 use expr::refusal::{Reason, Refusal};
 use std::fmt;
 
-// The bytes that wait stand at the front of the buffer.
+// The bytes that wait stand at the front of the buffer. That the number of its places stays is promised by each method: it is so of what is there before
+// and after, which no ghost field says.
 #[derive(Drop)]
 pub struct Output<'a, P> {
     rt: &'a P,
