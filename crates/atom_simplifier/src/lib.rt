@@ -52,11 +52,11 @@ pub fn local_certifiable_atom_rewrite(
 ) -> Result<Option<usize>, Refusal>
     ensures { (mapped option_of (outcome result) ≡ mapped (map nodes) (local_rewrite_at words.now width (length out.old))) × (out.new ≡ written encode (local_rewrite_at words.now width (length out.old)) out.old) }
 {
-    let (tree, width) = admit(words, width, out.len())?;
-    let Some(decided) = local::root_rewrite(tree, width) else {
+    let (root, width) = admit(words, width, out.len())?;
+    let Some(decided) = local::root_rewrite(root, width) else {
         return Ok(None);
     };
-    let n = write::write_replacement(tree, decided, width, out);
+    let n = write::write_replacement(root, decided, width, out);
     Ok(Some(n / 2))
 }
 

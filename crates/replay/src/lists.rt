@@ -28,28 +28,28 @@ fn given<T: Into<Answer>>(outcome: Result<T, Refusal>) -> Option<Outcome> {
 }
 
 fn outcome_of(line: &[u8]) -> Option<Outcome> {
-    let (name, lists) = text::to_space(line);
+    let (name, lists) = text::name(line)?;
     let Some((first, others)) = text::first_list(lists) else {
         return of_one_list(name, lists);
     };
     match name {
-        b"same_words" => same_words(first, others),
-        b"is_better" => given(Ok(expr_cost::is_better(cost_in(first)?, cost_in(others)?))),
+        "same_words" => same_words(first, others),
+        "is_better" => given(Ok(expr_cost::is_better(cost_in(first)?, cost_in(others)?))),
         _ => of_widths(name, first, others),
     }
 }
 
-fn of_one_list(name: &[u8], list: &[u8]) -> Option<Outcome> {
+fn of_one_list(name: &str, list: &[u8]) -> Option<Outcome> {
     // fixed sizes, since no crate uses the heap: the largest request fits
     let mut room = [0u64; MOST_WORDS];
     let words = text::numbers_in(list, &mut room)?;
     match (name, words) {
-        (b"arity_of", [kind]) => given(expr::arity_of(*kind)),
-        (b"check_tree", _) => given(expr::check_tree(words)),
-        (b"span", _) => given(expr::span(words)),
-        (b"is_constant_subtree", _) => given(expr::is_constant_subtree(words)),
-        (b"has_var_dep", _) => given(expr::has_var_dep(words)),
-        (b"compute_cost", _) => given(expr_cost::compute_cost(words)),
+        ("arity_of", [kind]) => given(expr::arity_of(*kind)),
+        ("check_tree", _) => given(expr::check_tree(words)),
+        ("span", _) => given(expr::span(words)),
+        ("is_constant_subtree", _) => given(expr::is_constant_subtree(words)),
+        ("has_var_dep", _) => given(expr::has_var_dep(words)),
+        ("compute_cost", _) => given(expr_cost::compute_cost(words)),
         _ => given(Ok(arithmetic::answer(name, words)?)),
     }
 }
@@ -77,7 +77,7 @@ fn cost_in(list: &[u8]) -> Option<ExprCost> {
 }
 
 // The text of a width, and of the lists behind it: widths, and what else the request has.
-fn of_widths(name: &[u8], width: &[u8], lists: &[u8]) -> Option<Outcome> {
+fn of_widths(name: &str, width: &[u8], lists: &[u8]) -> Option<Outcome> {
     let (var_widths, others) = text::first_list(lists)?;
     let mut number_room = [0u32; 1];
     let mut width_room = [0u32; MOST_WORDS];
@@ -86,21 +86,21 @@ fn of_widths(name: &[u8], width: &[u8], lists: &[u8]) -> Option<Outcome> {
     };
     let var_widths = text::numbers_in(var_widths, &mut width_room)?;
     match name {
-        b"value" => of_setting(others, *width, var_widths),
+        "value" => of_setting(others, *width, var_widths),
         _ => of_tree(name, others, *width, var_widths),
     }
 }
 
 // The text of a tree.
-fn of_tree(name: &[u8], list: &[u8], width: u32, var_widths: &[u32]) -> Option<Outcome> {
+fn of_tree(name: &str, list: &[u8], width: u32, var_widths: &[u32]) -> Option<Outcome> {
     let mut room = [0u64; MOST_WORDS];
     let words = text::numbers_in(list, &mut room)?;
     match name {
-        b"check_one_width" => given(value::check_one_width(words, width, var_widths)),
-        b"checked_width_of" => given(width::checked_width_of(words, var_widths, width)),
-        b"width_of" => given(width::width_of(words, var_widths, width)),
-        b"is_uniform_width" => given(width::is_uniform_width(words, var_widths, width)),
-        b"validate_widths" => given(width::validate_widths(words, var_widths, width)),
+        "check_one_width" => given(value::check_one_width(words, width, var_widths)),
+        "checked_width_of" => given(width::checked_width_of(words, var_widths, width)),
+        "width_of" => given(width::width_of(words, var_widths, width)),
+        "is_uniform_width" => given(width::is_uniform_width(words, var_widths, width)),
+        "validate_widths" => given(width::validate_widths(words, var_widths, width)),
         _ => None,
     }
 }

@@ -9,7 +9,7 @@ pub(crate) struct Candidates;
 
 impl Answers for Candidates {
     fn answer<P: Print>(line: &[u8], out: &mut Output<'_, P>) -> Option<()> {
-        let (name, lists) = text::to_space(line);
+        let (name, lists) = text::name(line)?;
         let (numbers, words) = text::first_list(lists)?;
         // fixed sizes, since no crate uses the heap: the largest request fits
         let mut number_room = [0u64; 4];
@@ -18,8 +18,8 @@ impl Answers for Candidates {
         let numbers = text::numbers_in(numbers, &mut number_room)?;
         let words = text::numbers_in(words, &mut word_room)?;
         let (width, number, size, count) = match (name, numbers) {
-            (b"candidate", [width, number, size]) => (*width, *number, *size, 1),
-            (b"candidate_times", [width, number, size, count]) => (*width, *number, *size, *count),
+            ("candidate", [width, number, size]) => (*width, *number, *size, 1),
+            ("candidate_times", [width, number, size, count]) => (*width, *number, *size, *count),
             _ => return None,
         };
         let candidate = Candidate {

@@ -12,7 +12,7 @@ pub(crate) struct Chains;
 
 impl Answers for Chains {
     fn answer<P: Print>(line: &[u8], out: &mut Output<'_, P>) -> Option<()> {
-        let (name, lists) = text::to_space(line);
+        let (name, lists) = text::name(line)?;
         let (numbers, lists) = text::first_list(lists)?;
         let (var_widths, words) = text::first_list(lists)?;
         // fixed sizes, since no crate uses the heap: the largest request fits
@@ -23,9 +23,9 @@ impl Answers for Chains {
         let var_widths = text::numbers_in(var_widths, &mut width_room)?;
         let words = text::numbers_in(words, &mut word_room)?;
         let (width, size, count) = match (name, numbers) {
-            (b"chain", [width, size]) => (*width, *size, 1),
+            ("chain", [width, size]) => (*width, *size, 1),
             // the harness measures less in `chain_loop_times`; the call is the same
-            (b"chain_times" | b"chain_loop_times", [width, size, count]) => (*width, *size, *count),
+            ("chain_times" | "chain_loop_times", [width, size, count]) => (*width, *size, *count),
             _ => return None,
         };
         let mut room = zeros::<u64, MOST_WORK>();

@@ -14,7 +14,7 @@ pub(crate) struct Rewrites;
 
 impl Answers for Rewrites {
     fn answer<P: Print>(line: &[u8], out: &mut Output<'_, P>) -> Option<()> {
-        let (name, lists) = text::to_space(line);
+        let (name, lists) = text::name(line)?;
         let (numbers, words) = text::first_list(lists)?;
         // fixed sizes, since no crate uses the heap: the largest request fits
         let mut number_room = [0u32; 4];
@@ -22,12 +22,12 @@ impl Answers for Rewrites {
         let numbers = text::numbers_in(numbers, &mut number_room)?;
         let words = text::numbers_in(words, &mut word_room)?;
         match (name, numbers) {
-            (b"local", [width, size]) => put_local(words, *width, *size, 1, out),
-            (b"local_times", [width, size, count]) => {
+            ("local", [width, size]) => put_local(words, *width, *size, 1, out),
+            ("local_times", [width, size, count]) => {
                 put_local(words, *width, *size, *count, out)
             }
-            (b"site", [width, size, bytes]) => put_site(words, *width, *size, *bytes, 1, out),
-            (b"site_times", [width, size, bytes, count]) => {
+            ("site", [width, size, bytes]) => put_site(words, *width, *size, *bytes, 1, out),
+            ("site_times", [width, size, bytes, count]) => {
                 put_site(words, *width, *size, *bytes, *count, out)
             }
             _ => None,

@@ -17,11 +17,20 @@ fn find(text: &[u8], byte: u8) -> Option<usize>
     text.iter().position(|b| *b == byte)
 }
 
-// What stands before the first space, and the text from it on: the name of a request and its lists, or a number and what follows it.
-pub fn to_space(text: &[u8]) -> (&[u8], &[u8])
+// What stands before the first space, and the text from it on.
+fn to_space(text: &[u8]) -> (&[u8], &[u8])
     ensures { text.now ≡ result.0.now ++ result.1.now }
 {
     text.split_at(find(text, b' ').unwrap_or(text.len()))
+}
+
+// The name of a request, and the text of its lists. A `str`: a `match` compares one as a whole, where one of bytes has a case for each byte, and the
+// check of a program's cases would take half as long again as all the rest of it.
+pub fn name(line: &[u8]) -> Option<(&str, &[u8])>
+    ensures { IfSome result (λ p. line.now ≡ p.0.now ++ p.1.now) }
+{
+    let (name, lists) = to_space(line);
+    Some((str::from_utf8(name).ok()?, lists))
 }
 
 // The first list of a text, and the text of the lists behind it; `None` where there is one list alone. A list ends where ` /` stands.
