@@ -58,7 +58,8 @@ def function_at(lines, number):
 def refused_by(crate, reason):
     """Whose proof the first error is in, and the goal that is not proved."""
     part, path, line, said = reason.groups()
-    goal = (re.search(r"`([^` ]+)`?", said[said.find("(`"):] if part == "src" else said) or [""] * 2)[1]
+    found = re.search(r"\(`([^` ]+)" if part == "src" else r"`([^` ]+)", said)
+    goal = found[1] if found else ""
     if part == "src":
         return function_at(text_of(f"{crate}/src/{path}").split("\n"), int(line)), goal
     *folders, file = path.split("/")
@@ -66,9 +67,9 @@ def refused_by(crate, reason):
         return f"{file.removesuffix('.antt')}.{goal}", "returns"
     if not folders[-1].startswith("+"):
         return "::".join([it for it in folders[-2:-1] if it[0].isupper()] + folders[-1:]), goal
-    # functions that call each other have one folder; where they are several, the goal says which
-    several = re.fullmatch(r"(\w+?)-(.*)", goal)
-    return (several[1] if several and folders[-1] != "+" + several[1] and several[1] in folders[-1] else folders[-1][1:]), goal
+    # functions that call each other have one folder; where they are several, the goal begins with the one that it is of
+    cycle, first = folders[-1][1:], goal.split("-")[0]
+    return first if re.search(rf"(^|_){first}(_|$)", cycle) else cycle, goal
 
 
 def fault_of(crate, edit, said):
