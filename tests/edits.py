@@ -17,9 +17,10 @@ import sys
 
 ROOT = os.path.join(os.path.dirname(os.path.abspath(__file__)), "..")
 
+MISFIT = "it no longer fits the proof"
 # what `rt ci` says of a program that shows nothing of a contract, by what it begins with
 NO_REASON = {"NOT REFUSED": "it is still proved", "BAD EDIT": "it no longer fits", "NOT TRIED": "it was not tried",
-             "refused, as it must be (only because a proof file names": "it no longer fits the proof",
+             "refused, as it must be (only because a proof file names": MISFIT,
              "refused, as it must be (only by a limit": "it is refused by a limit alone"}
 REASON = re.compile(r"refused, as it must be: (?:note: )?(?:\./)?(src|proofs)/(\S+):(\d+):\d+: (.*)")
 # the name of a goal that is a promise, once the names of places are taken off
@@ -82,8 +83,9 @@ def fault_of(crate, edit, said):
     for begin, why in NO_REASON.items():
         if said.startswith(begin):
             return why
+    # the goal that the proof file answers is no more; `rt` takes it for a reason, as it reads the first line of the error alone
     if "`: `goal." in said:
-        return NO_REASON["refused, as it must be (only because a proof file names"]
+        return MISFIT
     reason = REASON.match(said)
     if not reason:
         return f"what is said of it has another form: {said}"
@@ -112,4 +114,4 @@ def main(log, root=ROOT):
 
 
 if __name__ == "__main__":
-    sys.exit(main(sys.argv[1]))
+    sys.exit(main(sys.argv[1]) if len(sys.argv) == 2 else __doc__)
