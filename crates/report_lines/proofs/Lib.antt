@@ -1,5 +1,4 @@
 mod TextLaws
-mod ReadyLaws
 mod AddsLaws
 mod ConditionsLaws
 mod RanLaws

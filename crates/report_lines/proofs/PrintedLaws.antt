@@ -35,7 +35,7 @@ use Rattle.report_lines.specs.declared.Totals.{Totals}
 use Rattle.report_lines.specs.Report.{Done, chained, outcome_of, fields, row_of, text_of}
 use Rattle.report_lines.specs.Steps.{sound_totals}
 use Rattle.report_lines.specs.Promises.{highest, done_by, Reaches, Ran, Printed}
-use Rattle.report_lines.proofs.ReadyLaws.{sound_open}
+use Rattle.report_lines.specs.BoundsLaws.{sound_open}
 use Rattle.report_lines.proofs.ConditionsLaws.{highest_tree, highest_small}
 
 module _ (t : Totals) (sound : sound_totals t ≡ true) (more : t.lines < 65535) where

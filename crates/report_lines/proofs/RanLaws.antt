@@ -33,6 +33,7 @@ use Rattle.atom_simplifier.specs.declared.chain.ChainEnd.{ChainEnd}
 use Rattle.expr.specs.Answers.{outcome}
 use Rattle.atom_simplifier.specs.Answers.{end_numbers}
 use Rattle.report_lines.specs.Report.{Done, done, chained}
+use Rattle.report_lines.specs.BoundsLaws.{admitted_tree}
 use Rattle.report_lines.specs.Promises.{done_by, Reaches, Ran}
 
 -- ---- the room
@@ -105,10 +106,6 @@ module _ (ws : List ℕ) (w : ℕ) (t : Expr) (after rest work : List ℕ) (n k 
 -- ---- the calls
 
 -- a tree that the chain takes is of one width
-pub admitted_tree : (ws : List ℕ) (w : ℕ) (widths : List ℕ) (a : ℕ) (t : Expr) → chain_admitted ws w widths a ≡ accepted t → one_width_of ws w widths ≡ accepted t
-unfolding chain_admitted
-admitted_tree ws w widths a t e = (roomy (λ u. 2 * (nodes u + D u)) a (one_width_of ws w widths) e).0
-
 module _ (ws : List ℕ) (w e : ℕ) (work after : List ℕ) (x : Result ChainEnd Refusal) (g : ChainGives (chain_admitted ws w [] (length (take e work))) w [] (take e work) after (mapped end_numbers (outcome x))) where
   abbrev back : List ℕ
   back = put_mid 0 e work after

@@ -1,155 +1,95 @@
--- A step: what is left to be printed before and after it. Assumes nothing.
+-- A step: what a turn reads of it. Assumes nothing.
 use mathlib.Core.Path.{◌≡◌, refl, sym, ap, ap₂, subst, ◌∙◌}
 use mathlib.Core.Bool.{Bool, true, false}
-use mathlib.Core.List.{List, [], ◌∷◌, ◌++◌, map, append_assoc, append-nil}
+use mathlib.Core.List.{List, [], ◌∷◌, ◌++◌, append_assoc, append-nil}
 use Prim.Native.Nat.{ℕ, suc, ◌+◌, ◌-◌, ◌≤◌, ◌<◌}
 use native.Mathlib.Omega.{arith}
+use lib.Dec.{eqb}
 use lib.ListN.{length, take, drop, length-append, length-take, length-drop}
-use lib.Seq.{take_at, drop-length}
-use Rattle.expr.specs.declared.refusal.Reason.{Reason}
-use Rattle.expr.specs.Outcome.{Outcome, refused, accepted, mapped, ◌and_then◌}
-use Rattle.expr.specs.Expr.{Expr, nodes}
-use Rattle.expr.specs.ParseLaws.{parse_sound}
+use lib.Seq.{take_at, take_all, drop-length}
+use Rattle.expr.specs.Outcome.{Outcome}
 use Rattle.expr.specs.Lent.{over}
-use Rattle.value.specs.ValueLaws.{one_width_sound}
-use Rattle.rewriting.specs.Chain.{last_of, trees_of}
-use Rattle.rewriting.specs.ChainLaws.{trees_listed, last_nodes}
-use Rattle.atom_simplifier.specs.Calls.{chain_admitted}
-use Rattle.frame.specs.Frame.{frame, line_words}
-use Rattle.frame.specs.FrameLaws.{length_frame, line_clip}
 use Rattle.lines.specs.declared.Taken.{Taken}
-use Rattle.lines.specs.Lines.{lines_from, up_to, has_end, used_of, kept}
-use Rattle.lines.specs.LinesLaws.{front_is, ended_used, ended_fits, going_used, inside_ended, lines_ended, lines_going, clip_first}
+use Rattle.lines.specs.Lines.{up_to, has_end, used_of, kept}
+use Rattle.lines.specs.LinesLaws.{cases, never, front_is, ended_used, ended_fits, going_all, going_used, inside_ended, kept_again}
 use Rattle.report_lines.specs.declared.Totals.{Totals}
-use Rattle.report_lines.specs.Report.{Done, done, chained, outcome_of, fields, row_of, text_of, texts_of, refused_lines, nodes_before, nodes_after, plus, totals_of, sums, closing}
-use Rattle.report_lines.specs.Steps.{outcomes_left, rest_of, sound_totals}
-use Rattle.report_lines.specs.ReportLaws.{plus_plus}
-use Rattle.report_lines.specs.Promises.{is_open, Prints, Goes, state_of}
-use Rattle.report_lines.proofs.ReadyLaws.{sound_open, sound_shut, open_lines}
-use Rattle.report_lines.proofs.AddsLaws.{adds_none}
-use Rattle.report_lines.proofs.RanLaws.{admitted_tree}
-use Rattle.report_lines.proofs.TextLaws.{fields_most}
+use Rattle.report_lines.specs.Report.{Done, outcome_of, text_of, plus, totals_of}
+use Rattle.report_lines.specs.Steps.{is_open, Fed, unread, read_on, fed}
+use Rattle.report_lines.specs.StepsLaws.{outcome_clip}
+use Rattle.report_lines.specs.Promises.{Prints, Goes, state_of}
+use Rattle.report_lines.proofs.AddsLaws.{adds_none, adds_long}
 
--- ---- what is left
+-- ---- the step up to the first line end of a chunk
 
--- a line is printed, and the rest after it
-pub rest_line : (t : Totals) (p bytes l more : List ℕ) → t.lines < 65535 → lines_from p bytes ≡ l ∷ lines_from [] more
-    → rest_of t p bytes ≡ text_of (t.lines + 1) (outcome_of l) ++ rest_of (plus t (totals_of (outcome_of l))) [] more
-unfolding rest_of texts_of sums
-rest_line t p bytes l more h e =
-    let os = outcomes_left (t.lines + 1) [] more in
-    let n : 65535 - t.lines ≡ suc (65535 - (t.lines + 1)) = omega arith in
-    let f : outcomes_left t.lines p bytes ≡ outcome_of l ∷ os =
-    ap₂ (λ (k : ℕ) (ls : List (List ℕ)). map outcome_of (take k ls)) n e in
-    ap (λ (xs : List (Outcome Done)). texts_of (t.lines + 1) xs ++ closing (plus t (sums xs))) f
-    ∙ append_assoc (text_of (t.lines + 1) (outcome_of l)) (texts_of (t.lines + 1 + 1) os) (closing (plus t (plus (totals_of (outcome_of l)) (sums os))))
-    ∙ ap (λ (s : Totals). text_of (t.lines + 1) (outcome_of l) ++ (texts_of (t.lines + 1 + 1) os ++ closing s)) (plus_plus t (totals_of (outcome_of l)) (sums os))
+-- a step in two parts
+pub read_on_on : (n m : ℕ) (xs ys : List ℕ) (f : Fed) → read_on n xs (read_on m ys f) ≡ read_on (n + m) (xs ++ ys) f
+read_on_on n m xs ys f =
+    ap₂ (λ (u : ℕ) (l : List ℕ). record { used = u; text = l; totals = f.totals; kept = f.kept }) (let e : n + (m + f.used) ≡ n + m + f.used = omega arith in e) (sym (append_assoc xs ys f.text))
 
-outcome_clip : (l : List ℕ) → outcome_of (take 9219 l) ≡ outcome_of l
-unfolding outcome_of
-outcome_clip l = ap (λ o. o and_then chained) (line_clip l)
+pub read_on_none : (f : Fed) → f ≡ read_on 0 [] f
+read_on_none f = ap (λ (u : ℕ). record { used = u; text = f.text; totals = f.totals; kept = f.kept }) (let e : f.used ≡ 0 + f.used = omega arith in e)
 
--- of a line that goes on, 9,219 bytes are enough
-rest_clip : (t : Totals) (p bytes : List ℕ) → rest_of t (take 9219 p) bytes ≡ rest_of t p bytes
-unfolding rest_of
-rest_clip t p bytes =
-    ap (λ (xs : List (Outcome Done)). texts_of (t.lines + 1) xs ++ closing (plus t (sums xs)))
-    (clip_first 9219 outcome_of outcome_clip (omega arith) (65535 - t.lines) p bytes)
+-- a byte more
+byte_on : (n : ℕ) (xs : List ℕ) (f : Fed) → read_on 1 [] (read_on n xs f) ≡ read_on (suc n) xs f
+byte_on n xs f = ap (λ (u : ℕ). record { used = u; text = xs ++ f.text; totals = f.totals; kept = f.kept }) (let e : 1 + (n + f.used) ≡ suc n + f.used = omega arith in e)
 
-rest_same : (t : Totals) (p q bytes more : List ℕ) → lines_from p bytes ≡ lines_from q more → rest_of t p bytes ≡ rest_of t q more
-unfolding rest_of
-rest_same t p q bytes more e =
-    ap (λ (ls : List (List ℕ)). texts_of (t.lines + 1) (map outcome_of (take (65535 - t.lines) ls)) ++ closing (plus t (sums (map outcome_of (take (65535 - t.lines) ls))))) e
+-- what a step does once a line is printed
+abbrev after_line : Totals → ℕ → Outcome Done → List ℕ → Fed
+after_line t room o rest = fed (plus t (totals_of o)) [] (room - length (text_of (t.lines + 1) o)) rest
 
--- ---- bounds of a line
+line_same : (p : List ℕ) (b : ℕ) (xs : List ℕ) → outcome_of (take 9219 (p ++ (b ∷ [])) ++ xs) ≡ outcome_of (p ++ (b ∷ xs))
+line_same p b xs =
+    sym (outcome_clip (take 9219 (p ++ (b ∷ [])) ++ xs)) ∙ ap outcome_of (kept_again 9219 (p ++ (b ∷ [])) xs) ∙ outcome_clip ((p ++ (b ∷ [])) ++ xs)
+    ∙ ap outcome_of (append_assoc p (b ∷ []) xs)
 
-pub record Small (o : Outcome Done) : Type 0 where
-  pub few_refused : refused_lines o ≤ 1
-  pub few_before : nodes_before o ≤ 512
-  pub few_after : nodes_after o ≤ 512
-  pub text_most : (i : ℕ) → length (text_of i o) ≤ 9321
+module _ (t : Totals) (room : ℕ) (opens : is_open t.lines room ≡ true) where
+  fed_ended : (p chunk : List ℕ) → has_end chunk ≡ true → (o : Outcome Done) → o ≡ outcome_of (p ++ up_to chunk)
+      → fed t p room chunk ≡ read_on (used_of chunk) (text_of (t.lines + 1) o) (after_line t room o (drop (used_of chunk) chunk))
+  unfolding fed has_end up_to used_of
+  fed_ended p [] h o e = never (sym h)
+  fed_ended p (b ∷ bs) h o e =
+      rw opens (cases (eqb b 10)
+        (λ y. rw y (ap (λ (q : Outcome Done). read_on 1 (text_of (t.lines + 1) q) (after_line t room q bs)) (sym (rw y at e ∙ ap outcome_of (append-nil p)))))
+        (λ n. rw n (ap (read_on 1 []) (fed_ended (take 9219 (p ++ (b ∷ []))) bs (rw n at h) o (rw n at e ∙ sym (line_same p b (up_to bs)))) ∙ byte_on (used_of bs) (text_of (t.lines + 1) o) _)))
 
-small_refused : (r : Reason) → Small (refused r)
-unfolding text_of
-small_refused r = record {
-  few_refused = omega arith;
-  few_before = omega arith;
-  few_after = omega arith;
-  text_most = λ i. omega (arith, ap length (append-nil (fields (row_of i (refused r)))), fields_most (row_of i (refused r)));
-}
-
-small_done : (w : ℕ) (t : Expr) → nodes t ≤ 512 → Small (accepted (done w t))
-unfolding text_of
-small_done w t h =
-    let m : nodes (last_of t (trees_of w t)) ≤ nodes t = last_nodes w (trees_listed w t) in
-    record {
-      few_refused = omega arith;
-      few_before = h;
-      few_after = omega arith;
-      text_most = λ i.
-          omega (arith, length-append (fields (row_of i (accepted (done w t)))) (frame w (last_of t (trees_of w t))), fields_most (row_of i (accepted (done w t))), length_frame w (last_of t (trees_of w t)));
-    }
-
-small_chained : (w : ℕ) (ws : List ℕ) → Small (chained (w, ws))
-small_chained w ws = go (chain_admitted ws w [] 4096) refl
-  where
-    go : (o : Outcome Expr) → chain_admitted ws w [] 4096 ≡ o → Small (mapped (done w) o)
-    go (refused r) e = small_refused r
-    go (accepted t) e = small_done w t (parse_sound ws t (one_width_sound ws w [] t (admitted_tree ws w [] 4096 t e)).parsed).valid.count
-
-pub small : (l : List ℕ) → Small (outcome_of l)
-unfolding outcome_of
-small l = go (line_words l)
-  where
-    go : (o : Outcome (ℕ × List ℕ)) → Small (o and_then chained)
-    go (refused r) = small_refused r
-    go (accepted (w, ws)) = small_chained w ws
-
-pub sound_next : (t : Totals) (l : List ℕ) → sound_totals t ≡ true → t.lines < 65535 → sound_totals (plus t (totals_of (outcome_of l))) ≡ true
-sound_next t l s h =
-    let o = sound_open t s in
-    let b = small l in
-    sound_shut (plus t (totals_of (outcome_of l))) (record {
-      some_lines = omega arith;
-      some_refused = omega (arith, o.some_refused, b.few_refused);
-      some_before = omega (arith, o.some_before, b.few_before);
-      some_after = omega (arith, o.some_after, b.few_after);
-    })
+  fed_going : (p chunk : List ℕ) → has_end chunk ≡ false → length p ≤ 9219 → fed t p room chunk ≡ read_on (length chunk) [] (fed t (take 9219 (p ++ chunk)) room [])
+  unfolding fed has_end
+  fed_going p [] h k = ap (unread t) (sym (ap (take 9219) (append-nil p) ∙ take_all 9219 p k)) ∙ read_on_none _
+  fed_going p (b ∷ bs) h k =
+      rw opens (cases (eqb b 10) (λ y. never (rw y at h))
+        (λ n. rw n (ap (read_on 1 []) (fed_going (take 9219 (p ++ (b ∷ []))) bs (rw n at h) (omega (arith, length-take 9219 (p ++ (b ∷ [])))))
+          ∙ byte_on (length bs) [] _
+          ∙ ap (λ (l : List ℕ). read_on (suc (length bs)) [] (unread t l)) (kept_again 9219 (p ++ (b ∷ [])) bs ∙ ap (take 9219) (append_assoc p (b ∷ []) bs)))))
 
 -- ---- `turn`
 
-module _ (t : Totals) (have : ℕ) (line chunk : List ℕ) (sound : sound_totals t ≡ true) (room : ℕ) (opens : is_open t.lines room ≡ true) (put : ℕ) (before : List ℕ) where
+module _ (t : Totals) (have : ℕ) (line chunk : List ℕ) (put : ℕ) (before : List ℕ) (opens : is_open t.lines (length before - put) ≡ true) where
   -- a line is printed, and nothing of the next one is kept
-  module _ (l line' : List ℕ) (t' : Totals) (put' : ℕ) (after : List ℕ) (used have' : ℕ) (g : Prints (outcome_of l) t put before t' put' after) (z : have' ≡ 0) (most : used ≤ length chunk)
-      (e : (more : List ℕ) → lines_from (take have line) (chunk ++ more) ≡ l ∷ lines_from [] (drop used chunk ++ more)) (long : length line' ≡ length line) where
-    printed : Goes (state_of t have) line chunk put before used (state_of t' have') line' put' after
-    printed = record {
-      text = text_of (t.lines + 1) (outcome_of l);
-      advances = record {
-        same = λ more.
-            rest_line t (take have line) (chunk ++ more) l (drop used chunk ++ more) (open_lines t.lines room opens) (e more)
-            ∙ ap₂ (λ (u : Totals) (n : ℕ). text_of (t.lines + 1) (outcome_of l) ++ rest_of u (take n line') (drop used chunk ++ more)) (sym g.totals_is) (sym z);
-        used_most = most;
-        sound = ap sound_totals g.totals_is ∙ sound_next t l sound (open_lines t.lines room opens);
-        have_most = omega (arith, z);
-        line_length = long;
-      };
-      adds = g.adds;
-    }
+  printed : (o : Outcome Done) (line' : List ℕ) (t' : Totals) (put' : ℕ) (after : List ℕ) (used have' : ℕ) → Prints o t put before t' put' after → have' ≡ 0 → has_end chunk ≡ true
+      → used ≡ used_of chunk → o ≡ outcome_of (take have line ++ up_to chunk) → Goes (state_of t have) line chunk put before used (state_of t' have') line' put' after
+  printed o line' t' put' after used have' g z ends u e =
+      let room : length before - put - length (text_of (t.lines + 1) o) ≡ length after - put' =
+      omega (arith, g.adds.put_is, adds_long (text_of (t.lines + 1) o) put before put' after g.adds)
+      in
+      let rest : after_line t (length before - put) o (drop (used_of chunk) chunk) ≡ fed t' (take have' line') (length after - put') (drop used chunk) =
+      ap₂ (λ (r : ℕ) (n : ℕ). fed (plus t (totals_of o)) [] r (drop n chunk)) room (sym u) ∙ ap₂ (λ (v : Totals) (n : ℕ). fed v (take n line') (length after - put') (drop used chunk)) (sym g.totals_is) (sym z)
+      in
+      record {
+        text = text_of (t.lines + 1) o;
+        step =
+            fed_ended t (length before - put) opens (take have line) chunk ends o e
+            ∙ ap₂ (λ (n : ℕ) (f : Fed). read_on n (text_of (t.lines + 1) o) f) (sym u) rest;
+        used_most = omega (arith, u, ended_fits chunk ends);
+        adds = g.adds;
+      }
 
   -- a line that lies whole in the chunk
   pub turn_whole : (t' : Totals) (put' : ℕ) (after : List ℕ) (end : ℕ) → Prints (outcome_of (take end chunk)) t put before t' put' after → have ≡ 0 → end ≡ length (up_to chunk) → end < length chunk
       → Goes (state_of t have) line chunk put before (end + 1) (state_of t' have) line put' after
   turn_whole t' put' after end g z e h =
       let ends : has_end chunk ≡ true = inside_ended chunk (omega arith) in
-      let used_is : used_of chunk ≡ end + 1 = omega (arith, ended_used chunk ends) in
-      let l-is : take end chunk ≡ up_to chunk = ap (λ (n : ℕ). take n chunk) e ∙ front_is chunk in
-      printed (take end chunk) line t' put' after (end + 1) have g z (omega arith)
-      (λ more.
-      ap (λ (n : ℕ). lines_from (take n line) (chunk ++ more)) z
-      ∙ lines_ended [] chunk more ends
-      ∙ ap₂ (λ (l : List ℕ) (n : ℕ). l ∷ lines_from [] (drop n chunk ++ more)) (sym l-is) used_is)
-      refl
+      printed (outcome_of (take end chunk)) line t' put' after (end + 1) have g z ends (omega (arith, ended_used chunk ends))
+      (ap₂ (λ (l : List ℕ) (n : ℕ). outcome_of (take n line ++ l)) (ap (λ (n : ℕ). take n chunk) e ∙ front_is chunk) (sym z))
 
   -- the bytes of a line that are kept
   module _ (line_is : length line ≡ 9219) (line' : List ℕ) (k : Taken) (used_is : k.used ≡ used_of chunk) (ended_is : k.ended ≡ has_end chunk)
@@ -166,49 +106,31 @@ module _ (t : Totals) (have : ℕ) (line chunk : List ℕ) (sound : sound_totals
     pub kept_inside : k.have ≤ length line'
     kept_inside = omega (arith, kept_long, bytes_most)
 
-    kept_front : take k.have line' ≡ bytes
-    kept_front = ap (take k.have) line-to ∙ take_at bytes (drop (length bytes) line) k.have (sym have_is)
+    kept_front : take k.have line' ≡ take 9219 (take have line ++ up_to chunk)
+    kept_front =
+        ap (take k.have) line-to ∙ take_at bytes (drop (length bytes) line) k.have (sym have_is) ∙ ap (λ (n : ℕ). take n (take have line ++ up_to chunk)) line_is
 
-    clipped : bytes ≡ take 9219 (take have line ++ up_to chunk)
-    clipped = ap (λ (n : ℕ). take n (take have line ++ up_to chunk)) line_is
-
-    pub turn_ended : (line'' : List ℕ) (t' : Totals) (put' : ℕ) (after : List ℕ) → Prints (outcome_of (take k.have line')) t put before t' put' after → k.ended ≡ true → length line'' ≡ length line'
+    pub turn_ended : (line'' : List ℕ) (t' : Totals) (put' : ℕ) (after : List ℕ) → Prints (outcome_of (take k.have line')) t put before t' put' after → k.ended ≡ true
         → Goes (state_of t have) line chunk put before k.used (state_of t' 0) line'' put' after
-    turn_ended line'' t' put' after g i long =
-        let ends : has_end chunk ≡ true = sym ended_is ∙ i in
-        let l = take have line ++ up_to chunk in
-        let same : outcome_of (take k.have line') ≡ outcome_of l =
-        ap outcome_of (kept_front ∙ clipped) ∙ outcome_clip l in
-        printed l line'' t' put' after k.used 0 (subst (λ (o : Outcome Done). Prints o t put before t' put' after) same g) refl
-        (omega (arith, ended_fits chunk ends))
-        (λ more. lines_ended (take have line) chunk more ends ∙ ap (λ (n : ℕ). l ∷ lines_from [] (drop n chunk ++ more)) (sym used_is))
-        (long ∙ kept_long)
+    turn_ended line'' t' put' after g i =
+        printed (outcome_of (take k.have line')) line'' t' put' after k.used 0 g refl (sym ended_is ∙ i) used_is (ap outcome_of kept_front ∙ outcome_clip (take have line ++ up_to chunk))
 
     pub turn_going : k.ended ≡ false → put ≤ length before → Goes (state_of t have) line chunk put before k.used (state_of t k.have) line' put before
     turn_going i inside =
         let going : has_end chunk ≡ false = sym ended_is ∙ i in
         let all : k.used ≡ length chunk = used_is ∙ going_used chunk going in
-        let l = take have line ++ up_to chunk in
+        let short : length (take have line) ≤ 9219 = omega (arith, length-take have line) in
         record {
           text = [];
-          advances = record {
-            same = λ more.
-                rest_same t (take have line) l (chunk ++ more) more (lines_going (take have line) chunk more going)
-                ∙ sym (rest_clip t l more)
-                ∙ ap₂ (λ (p b : List ℕ). rest_of t p (b ++ more)) (sym (kept_front ∙ clipped)) (sym (ap (λ (n : ℕ). drop n chunk) all ∙ drop-length chunk));
-            used_most = omega arith;
-            sound = sound;
-            have_most = kept_inside;
-            line_length = kept_long;
-          };
+          step =
+              fed_going t (length before - put) opens (take have line) chunk going short
+              ∙ ap₂ (λ (n : ℕ) (p : List ℕ). read_on n [] (fed t p (length before - put) [])) (sym all) (ap (λ (l : List ℕ). take 9219 (take have line ++ l)) (sym (going_all chunk going)) ∙ sym kept_front)
+              ∙ ap (λ (l : List ℕ). read_on k.used [] (fed t (take k.have line') (length before - put) l)) (sym (ap (λ (n : ℕ). drop n chunk) all ∙ drop-length chunk));
+          used_most = omega arith;
           adds = adds_none put before inside;
         }
 
     pub some_used : 0 < length chunk → 1 ≤ k.used
-    some_used h = go (has_end chunk) refl
-      where
-        go : (b : Bool) → has_end chunk ≡ b → 1 ≤ k.used
-        go true e = omega (arith, ended_used chunk e)
-        go false e = omega (arith, going_used chunk e)
+    some_used h = cases (has_end chunk) (λ e. omega (arith, ended_used chunk e)) (λ e. omega (arith, going_used chunk e))
 
 pub ruleset turning = (turn_whole, kept_long, kept_inside, turn_ended, turn_going, some_used)

@@ -23,13 +23,9 @@ use Rattle.report_lines.specs.declared.Totals.{Totals}
 use Rattle.report_lines.specs.Report.{fields, percentage_of, closing}
 use Rattle.report_lines.specs.Steps.{sound_totals}
 use Rattle.report_lines.specs.Promises.{field}
-use Rattle.report_lines.proofs.ReadyLaws.{sound_open}
+use Rattle.report_lines.specs.BoundsLaws.{sound_open, hex_length, fields_most}
 
 -- ---- one field
-
-hex_length : (n : ℕ) → length (hex_text n) ≡ places n
-unfolding hex_text
-hex_length n = length_digits (places n) n
 
 pub field_length : (n end : ℕ) → length (field n end) ≡ places n + 1
 unfolding field
@@ -163,14 +159,6 @@ module _ (before after : ℕ) where
   some_before f = simp (ne_eqb before 0 f)
 
 -- ---- the closing line
-
--- so many numbers take at most 17 bytes each
-pub fields_most : (ns : List ℕ) → length (fields ns) ≤ 17 * length ns
-unfolding fields
-fields_most [] = omega arith
-fields_most (n ∷ []) = omega (arith, length-append (hex_text n) (10 ∷ []), hex_length n, (places_range 15 n).1)
-fields_most (n ∷ m ∷ ns) =
-    omega (arith, length-append (hex_text n) (32 ∷ fields (m ∷ ns)), hex_length n, (places_range 15 n).1, fields_most (m ∷ ns))
 
 pub closing_most : (t : Totals) → length (closing t) ≤ 53
 unfolding closing

@@ -2,4 +2,5 @@ pub mod Report
 pub mod Steps
 pub mod Promises
 pub mod ReportLaws
+pub mod BoundsLaws
 pub mod StepsLaws

@@ -1,5 +1,5 @@
 -- What the private functions promise one another. No public promise names these. Definitions only.
-use Rattle.std.specs.Prelude.{◌≡◌, Bool, ◌&&◌, List, [], ◌∷◌, ◌++◌, ℕ, suc, ◌+◌, ◌*◌, ◌≤◌, max, leb, ltb, eqb, length, take, if◌then◌else◌}
+use Rattle.std.specs.Prelude.{◌≡◌, List, [], ◌∷◌, ◌++◌, ℕ, suc, ◌+◌, ◌-◌, ◌*◌, ◌≤◌, max, eqb, length, take, drop, if◌then◌else◌}
 use Rattle.expr.specs.Outcome.{Outcome, refused, accepted}
 use Rattle.expr.specs.Front.{Whole, tree_at}
 use Rattle.expr.specs.Parts.{Laid}
@@ -7,7 +7,7 @@ use Rattle.hexadecimal.specs.Hex.{hex_text}
 use Rattle.report_lines.specs.declared.Totals.{Totals}
 use Rattle.report_lines.specs.declared.State.{State}
 use Rattle.report_lines.specs.Report.{Done, text_of, plus, totals_of, closing}
-use Rattle.report_lines.specs.Steps.{rest_of, Advances}
+use Rattle.report_lines.specs.Steps.{read_on, fed, rest_of}
 
 -- ---- text
 
@@ -51,10 +51,6 @@ pub record Ran (o : Outcome Done) (w : ℕ) (ws work : List ℕ) (answer : Outco
 
 -- ---- the printer
 
--- another line is read after so many lines, and so many places are left in the output
-unfoldable pub is_open : ℕ → ℕ → Bool
-is_open lines room = ltb lines 65535 && leb 9400 room
-
 -- a text is put behind the bytes that were put
 pub record Adds (text : List ℕ) (put : ℕ) (before : List ℕ) (put' : ℕ) (after : List ℕ) : Type 0 where
   pub laid : Laid before after (take put before ++ text)
@@ -78,8 +74,9 @@ pub record PrintsLast (line : List ℕ) (t : Totals) (put : ℕ) (before : List 
 abbrev pub state_of : Totals → ℕ → State
 state_of t have = record { totals = t; have = have }
 
--- so many bytes of the chunk are read, and what is printed of them is put behind the bytes that were put
+-- so many bytes of the chunk are read, what is printed of them is put behind the bytes that were put, and the rest of the step is a step from there
 pub record Goes (s : State) (line chunk : List ℕ) (put : ℕ) (before : List ℕ) (used : ℕ) (s' : State) (line' : List ℕ) (put' : ℕ) (after : List ℕ) : Type 0 where
   pub text : List ℕ
-  pub advances : Advances s line chunk used text s' line'
+  pub step : fed s.totals (take s.have line) (length before - put) chunk ≡ read_on used text (fed s'.totals (take s'.have line') (length after - put') (drop used chunk))
+  pub used_most : used ≤ length chunk
   pub adds : Adds text put before put' after

@@ -1,12 +1,49 @@
--- The report in steps: what is still to be printed between two chunks of the input. Definitions only.
-use Rattle.std.specs.Prelude.{◌≡◌, Bool, true, false, ◌&&◌, List, [], ◌∷◌, ◌++◌, map, ℕ, ◌+◌, ◌-◌, ◌*◌, ◌≤◌, ◌<◌, leb, eqb, length, take, drop}
+-- The report in steps: what a call reads, prints and keeps, and what is still to be printed between two chunks of the input. Definitions only.
+use Rattle.std.specs.Prelude.{◌≡◌, Bool, true, false, ◌&&◌, List, [], ◌∷◌, ◌++◌, map, ℕ, ◌+◌, ◌-◌, ◌*◌, leb, ltb, eqb, length, take, drop, if◌then◌else◌}
 use Rattle.expr.specs.Outcome.{Outcome}
 use Rattle.expr.specs.Lent.{over}
 use Rattle.lines.specs.Lines.{lines_from}
 use Rattle.report_lines.specs.declared.Totals.{Totals}
 use Rattle.report_lines.specs.declared.State.{State}
 use Rattle.report_lines.specs.declared.Step.{Step}
-use Rattle.report_lines.specs.Report.{Done, outcome_of, texts_of, no_totals, plus, sums, closing}
+use Rattle.report_lines.specs.Report.{Done, outcome_of, text_of, texts_of, no_totals, plus, totals_of, sums, closing}
+
+-- ---- a step
+
+-- another line is read: fewer than 65,535 were, and so many bytes of the output are left that there is room for what is printed of one line and for the
+-- closing line
+unfoldable pub is_open : ℕ → ℕ → Bool
+is_open lines room = ltb lines 65535 && leb 9400 room
+
+-- how many bytes a step reads and what it prints, and then the sums over the lines and the bytes that are kept of the line that goes on
+pub record Fed : Type 0 where
+  pub used : ℕ
+  pub text : List ℕ
+  pub totals : Totals
+  pub kept : List ℕ
+
+-- nothing is read
+abbrev pub unread : Totals → List ℕ → Fed
+unread t kept = record { used = 0; text = []; totals = t; kept = kept }
+
+-- so many bytes are read and a text is printed before the rest of a step
+abbrev pub read_on : ℕ → List ℕ → Fed → Fed
+read_on used text f = record { used = used + f.used; text = text ++ f.text; totals = f.totals; kept = f.kept }
+
+-- the step after lines with these sums, where of the line that goes on these bytes are kept and the output has so much room, over a chunk: each byte is
+-- read as long as another line is; 0a ends a line, which is printed; of a line its first 9,219 bytes are kept, one more than the longest frame without
+-- its 0a, so that a longer line shows
+unfoldable pub fed : Totals → List ℕ → ℕ → List ℕ → Fed
+fed t kept room [] = unread t kept
+fed t kept room (b ∷ bs) =
+    if is_open t.lines room
+    then (
+      if eqb b 10
+      then read_on 1 (text_of (t.lines + 1) (outcome_of kept)) (fed (plus t (totals_of (outcome_of kept))) [] (room - length (text_of (t.lines + 1) (outcome_of kept))) bs)
+      else read_on 1 [] (fed t (take 9219 (kept ++ (b ∷ []))) room bs))
+    else unread t kept
+
+-- ---- what is left
 
 -- what comes of the lines that are left, after so many lines and the bytes `kept` of the next one, where `bytes` are still to be read
 abbrev pub outcomes_left : ℕ → List ℕ → List ℕ → List (Outcome Done)
@@ -43,25 +80,16 @@ ready s line words work out = sound_totals s.totals && (leb s.have line && sound
 abbrev pub is_ready : State → Lent → Bool
 is_ready s lent = ready s (length lent.line) (length lent.words) (length lent.work) (length lent.out)
 
--- from state s with that line, `used` bytes of the chunk are read, `text` is printed, and the state is s' with line'
-pub record Advances (s : State) (line chunk : List ℕ) (used : ℕ) (text : List ℕ) (s' : State) (line' : List ℕ) : Type 0 where
-  -- whatever bytes follow the chunk
-  pub same : (more : List ℕ) → rest_of s.totals (take s.have line) (chunk ++ more) ≡ text ++ rest_of s'.totals (take s'.have line') (drop used chunk ++ more)
-  pub used_most : used ≤ length chunk
-  pub sound : sound_totals s'.totals ≡ true
-  pub have_most : s'.have ≤ length line'
-  pub line_length : length line' ≡ length line
+-- what `feed` answers and leaves: the step, its text at the front of the output, and the bytes that it keeps at the front of `line`. Free is what is in
+-- `words`, in `work`, and in `line` behind the kept bytes
+pub record StepIs (f : Fed) (before : Lent) (r : Step) (after : Lent) : Type 0 where
+  pub answer : r ≡ record { used = f.used; put = length f.text; state = record { totals = f.totals; have = length f.kept } }
+  pub out : after.out ≡ over f.text before.out
+  pub line : take (length f.kept) after.line ≡ f.kept
 
--- `feed` prints at the front of the output; it stops before the chunk's end only at line 65,535, or where the output may have no room for another
--- line. Free within `Advances` are how much is read where fewer than 9,400 bytes of the output are left, and with it the state and the kept bytes; free
--- altogether is what is in `words`, in `work`, and in `line` behind its kept bytes
 unfoldable pub FeedsIf : Bool → State → List ℕ → Lent → Step → Lent → Type 0
 FeedsIf false s chunk before r after = (r ≡ record { used = 0; put = 0; state = s }) × (after ≡ before)
-FeedsIf true s chunk before r after =
-    Advances s before.line chunk r.used (take r.put after.out) r.state after.line
-    × (after.out ≡ over (take r.put after.out) before.out)
-    × (r.put ≤ length before.out)
-    × (r.used < length chunk → r.state.totals.lines < 65535 → length before.out < r.put + 9400)
+FeedsIf true s chunk before r after = StepIs (fed s.totals (take s.have before.line) (length before.out) chunk) before r after
 
 -- the same as a record, which a proof does not unfold
 pub record Feeds (s : State) (chunk : List ℕ) (before : Lent) (r : Step) (after : Lent) : Type 0 where
@@ -85,15 +113,11 @@ unfoldable pub joined : List (List ℕ) → List ℕ
 joined [] = []
 joined (chunk ∷ chunks) = chunk ++ joined chunks
 
--- steps that lead through chunks from one state and line to another, and what they print together: an empty chunk is left behind, a step reads from
--- the front of a chunk, and after line 65,535 the rest may stay unread
-pub data Stepped : State → List ℕ → List (List ℕ) → List ℕ → State → List ℕ → Type 0 where
-  end : {s : State} {line : List ℕ} → Stepped s line [] [] s line
-  full : {s : State} {line : List ℕ} {chunks : List (List ℕ)} → s.totals.lines ≡ 65535 → Stepped s line chunks [] s line
-  next : {s u : State} {line line' text : List ℕ} {chunks : List (List ℕ)} → Stepped s line chunks text u line' → Stepped s line ([] ∷ chunks) text u line'
-  step : {s t u : State} {line line' line'' chunk text texts : List ℕ} {chunks : List (List ℕ)} {used : ℕ} → Advances s line chunk used text t line'
-      → Stepped t line' (drop used chunk ∷ chunks) texts u line'' → Stepped s line (chunk ∷ chunks) (text ++ texts) u line''
-
--- the state before the first byte
-abbrev pub start : State
-start = record { totals = no_totals; have = 0 }
+-- steps that lead through chunks from sums and kept bytes to others, and what they print together: an empty chunk is left behind, a step reads from the
+-- front of a chunk with any room in the output, and after line 65,535 the rest may stay unread
+pub data Stepped : Totals → List ℕ → List (List ℕ) → List ℕ → Totals → List ℕ → Type 0 where
+  end : {t : Totals} {kept : List ℕ} → Stepped t kept [] [] t kept
+  full : {t : Totals} {kept : List ℕ} {chunks : List (List ℕ)} → t.lines ≡ 65535 → Stepped t kept chunks [] t kept
+  next : {t u : Totals} {kept kept' text : List ℕ} {chunks : List (List ℕ)} → Stepped t kept chunks text u kept' → Stepped t kept ([] ∷ chunks) text u kept'
+  step : {t u : Totals} {kept kept' chunk texts : List ℕ} {chunks : List (List ℕ)} {f : Fed} (room : ℕ) → f ≡ fed t kept room chunk
+      → Stepped f.totals f.kept (drop f.used chunk ∷ chunks) texts u kept' → Stepped t kept (chunk ∷ chunks) (f.text ++ texts) u kept'

@@ -1,38 +1,60 @@
--- Readiness, and steps one after the other. Assumes nothing.
-use Rattle.std.specs.Prelude.{◌≡◌, refl, true, ◌&&◌, List, [], ◌++◌, ℕ, ◌+◌, ◌≤◌, leb, length, take, drop}
-use Rattle.std.proofs.Common.{sym, ap, ◌∙◌, append_assoc, arith, length-drop, drop-drop, leb-true}
-use Rattle.arith.specs.ChoiceLaws.{both_true}
-use Rattle.report_lines.specs.declared.State.{State}
-use Rattle.report_lines.specs.Steps.{rest_of, sound_totals, sound_room, ready, Advances}
+-- What holds of each step. Assumes nothing.
+use Rattle.std.specs.Prelude.{◌≡◌, true, false, List, [], ◌∷◌, ◌++◌, ℕ, suc, ◌+◌, ◌-◌, ◌≤◌, ◌<◌, eqb, length, take}
+use Rattle.std.proofs.Common.{ap, arith, length-take}
+use Rattle.expr.specs.Outcome.{◌and_then◌}
+use Rattle.frame.specs.FrameLaws.{line_clip}
+use Rattle.lines.specs.LinesLaws.{cases}
+use Rattle.report_lines.specs.declared.Totals.{Totals}
+use Rattle.report_lines.specs.Report.{chained, outcome_of, text_of, plus, totals_of}
+use Rattle.report_lines.specs.Steps.{is_open, Fed, unread, read_on, fed, sound_totals}
+use Rattle.report_lines.specs.BoundsLaws.{open_lines, open_shut, sound_next}
 
--- what the test of a state and of the lent places says
-pub record IsReady (s : State) (line words work out : ℕ) : Type 0 where
-  pub sound : sound_totals s.totals ≡ true
-  pub have_most : s.have ≤ line
-  pub room : sound_room line words work out ≡ true
+-- of a line 9,219 bytes are enough
+pub outcome_clip : (l : List ℕ) → outcome_of (take 9219 l) ≡ outcome_of l
+unfolding outcome_of
+outcome_clip l = ap (λ o. o and_then chained) (line_clip l)
 
-pub ready_open : (s : State) (line words work out : ℕ) → ready s line words work out ≡ true → IsReady s line words work out
-unfolding ready
-ready_open s line words work out e =
-    let p = both_true (sound_totals s.totals) (leb s.have line && sound_room line words work out) e in
-    let q = both_true (leb s.have line) (sound_room line words work out) p.1 in
-    record { sound = p.0; have_most = leb-true s.have line q.0; room = q.1 }
+-- what holds where nothing is read, and of a byte where it holds of the bytes after it, holds of each step
+module _ (P : Totals → List ℕ → List ℕ → Fed → Type 0) (stops : (t : Totals) (kept chunk : List ℕ) → P t kept chunk (unread t kept))
+    (line : (t : Totals) (kept : List ℕ) (b : ℕ) (bs : List ℕ) (f : Fed) → t.lines < 65535 → eqb b 10 ≡ true → P (plus t (totals_of (outcome_of kept))) [] bs f
+      → P t kept (b ∷ bs) (read_on 1 (text_of (t.lines + 1) (outcome_of kept)) f))
+    (byte : (t : Totals) (kept : List ℕ) (b : ℕ) (bs : List ℕ) (f : Fed) → eqb b 10 ≡ false → P t (take 9219 (kept ++ (b ∷ []))) bs f → P t kept (b ∷ bs) (read_on 1 [] f)) where
+  pub each_byte : (t : Totals) (kept : List ℕ) (room : ℕ) (chunk : List ℕ) → P t kept chunk (fed t kept room chunk)
+  unfolding fed
+  each_byte t kept room [] = stops t kept []
+  each_byte t kept room (b ∷ bs) =
+      cases (is_open t.lines room)
+      (λ o. rw o (cases (eqb b 10)
+        (λ e. rw e (line t kept b bs _ (open_lines t.lines room o) e (each_byte (plus t (totals_of (outcome_of kept))) [] (room - length (text_of (t.lines + 1) (outcome_of kept))) bs)))
+        (λ e. rw e (byte t kept b bs _ e (each_byte t (take 9219 (kept ++ (b ∷ []))) room bs)))))
+      (λ o. rw o (stops t kept (b ∷ bs)))
 
--- no step yet
-pub no_step : (s : State) (line chunk : List ℕ) (words work out : ℕ) → IsReady s (length line) words work out → Advances s line chunk 0 [] s line
-no_step s line chunk words work out i = record { same = λ more. refl; used_most = omega arith; sound = i.sound; have_most = i.have_most; line_length = refl }
+-- so much a step reads and keeps, and so are the sums then
+pub record Bounded (t : Totals) (kept chunk : List ℕ) (f : Fed) : Type 0 where
+  pub used_most : f.used ≤ length chunk
+  pub lines_most : f.totals.lines ≤ t.lines + f.used
+  pub kept_most : length kept ≤ 9219 → length f.kept ≤ 9219
+  pub sound : sound_totals t ≡ true → sound_totals f.totals ≡ true
 
--- two steps, the second from where the first has stopped
-pub step_on : {s t u : State} {line line' line'' chunk text texts : List ℕ} {at used : ℕ} → Advances s line chunk at text t line' → Advances t line' (drop at chunk) used texts u line''
-    → Advances s line chunk (at + used) (text ++ texts) u line''
-step_on {u = u} {line'' = line''} {chunk = chunk} {text = text} {texts = texts} {at = at} {used = used} a b = record {
-  same = λ more.
-      a.same more
-      ∙ ap (λ (l : List ℕ). text ++ l) (b.same more)
-      ∙ sym (append_assoc text texts (rest_of u.totals (take u.have line'') (drop used (drop at chunk) ++ more)))
-      ∙ ap (λ (l : List ℕ). (text ++ texts) ++ rest_of u.totals (take u.have line'') (l ++ more)) (drop-drop used at chunk);
-  used_most = omega (arith, a.used_most, b.used_most, length-drop at chunk);
-  sound = b.sound;
-  have_most = b.have_most;
-  line_length = b.line_length ∙ a.line_length;
-}
+pub fed_bounded : (t : Totals) (kept : List ℕ) (room : ℕ) (chunk : List ℕ) → Bounded t kept chunk (fed t kept room chunk)
+fed_bounded = each_byte Bounded
+    (λ t kept chunk. record { used_most = omega arith; lines_most = omega arith; kept_most = λ h. h; sound = λ s. s })
+    (λ t kept b bs f h e g. record {
+      used_most = omega (arith, g.used_most);
+      lines_most = omega (arith, g.lines_most);
+      kept_most = λ k. g.kept_most (omega arith);
+      sound = λ s. g.sound (sound_next t kept s h);
+    })
+    (λ t kept b bs f e g. record {
+      used_most = omega (arith, g.used_most);
+      lines_most = omega (arith, g.lines_most);
+      kept_most = λ k. g.kept_most (omega (arith, length-take 9219 (kept ++ (b ∷ []))));
+      sound = g.sound;
+    })
+
+-- a step with room for a line reads something, as long as lines are left
+pub fed_some : (t : Totals) (kept : List ℕ) (room : ℕ) (chunk : List ℕ) → t.lines < 65535 → 9400 ≤ room → 1 ≤ length chunk → 1 ≤ (fed t kept room chunk).used
+unfolding fed
+fed_some t kept room [] h k l = absurd (omega arith)
+fed_some t kept room (b ∷ bs) h k l =
+    rw (open_shut t.lines room h k) (cases (eqb b 10) (λ e. rw e (omega arith)) (λ e. rw e (omega arith)))

@@ -3,8 +3,8 @@
 #![tactic(auto)]
 
 ghost use Rattle.std.specs.Prelude.{◌≡◌, true, false, ◌-◌, ◌≤◌, ◌<◌, length};
-ghost use Rattle.report_lines.specs.Steps.{sound_totals, sound_room, ready, Feeds, Finishes};
-ghost use Rattle.report_lines.specs.Promises.{is_open, state_of, Goes};
+ghost use Rattle.report_lines.specs.Steps.{is_open, sound_totals, sound_room, ready, Feeds, Finishes};
+ghost use Rattle.report_lines.specs.Promises.{state_of, Goes};
 
 mod lent;
 mod line;

@@ -1,8 +1,8 @@
 // What is printed, at the front of the output.
 ghost use Rattle.std.specs.Prelude.{◌≡◌, true, ◌+◌, ◌-◌, ◌≤◌, length};
 ghost use Rattle.report_lines.specs.Report.{outcome_of, closing};
-ghost use Rattle.report_lines.specs.Steps.{sound_totals};
-ghost use Rattle.report_lines.specs.Promises.{is_open, Prints, PrintsLast, Adds};
+ghost use Rattle.report_lines.specs.Steps.{is_open, sound_totals};
+ghost use Rattle.report_lines.specs.Promises.{Prints, PrintsLast, Adds};
 
 use crate::lent::{Ongoing, Scratch};
 use crate::{MOST_LINES, TEXT_BYTES, Totals, text};

@@ -7,12 +7,12 @@ pub invariant_of-self : goal.invariant_of-self
 invariant_of-self g c = record {
   out_length = c.feed-step.auto.out ∙ c.args.self.now.out_length;
   is_ready =
-      ready_on _ _ _ _ _ c.args.self.now.is_ready _ _ _ _ _ _ c.feed-step.ensures c.feed-step.auto.words c.feed-step.auto.work c.feed-step.auto.out;
+      ready_on _ _ _ _ _ c.args.self.now.is_ready _ _ _ _ _ _ c.feed-step.ensures c.feed-step.auto.line c.feed-step.auto.words c.feed-step.auto.work c.feed-step.auto.out;
 }
 
 pub shared_ref_as_front-write_all : goal.shared_ref_as_front-write_all
 shared_ref_as_front-write_all g c =
-    let h : c.feed-step.result.put ≤ length c.args.self.now.out = put_inside _ _ _ _ _ c.args.self.now.is_ready _ _ _ _ _ _ c.feed-step.ensures in
+    let h : c.feed-step.result.put ≤ length c.args.self.now.out = put_inside _ _ _ _ _ c.args.self.now.is_ready _ _ _ _ _ _ c.feed-step.ensures c.feed-step.auto.out in
     omega (arith, c.args.self.now.out_length)
 
 pub returns : goal.returns

@@ -6,7 +6,7 @@ use Rattle.report.proofs.Report.read_all.Goals as goal
 ruleset laws = (rules, going_on)
 
 pub loop-init : goal.loop-init
-loop-init g c = going_first _ _ _ _ _ c.args.self.now.is_ready
+loop-init g c = going_first _ _
 
 pub loop-preserved : goal.loop-preserved
 loop-preserved g c = search laws
