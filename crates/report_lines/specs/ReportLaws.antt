@@ -7,7 +7,7 @@ use Rattle.lines.specs.Lines.{last_line, lines_from}
 use Rattle.lines.specs.LinesLaws.{clip_first}
 use Rattle.report_lines.specs.declared.Totals.{Totals}
 use Rattle.report_lines.specs.Report.{Done, chained, outcome_of, outcomes, text_of, texts_of, no_totals, plus, totals_of, sums, closing, report_of}
-use Rattle.report_lines.specs.Steps.{Fed, read_on, fed, outcomes_left, rest_of, joined, Stepped}
+use Rattle.report_lines.specs.Steps.{Fed, read_on, line_text, with_line, fed, outcomes_left, rest_of, joined, Stepped}
 use Rattle.report_lines.specs.StepsLaws.{outcome_clip, each_byte}
 
 -- ---- the sums
@@ -92,14 +92,14 @@ lines_byte kept b bs e = rw e refl
 drop_one : (n b : ℕ) (bs : List ℕ) → drop n bs ≡ drop (1 + n) (b ∷ bs)
 drop_one n b bs = ap (λ (k : ℕ). drop k (b ∷ bs)) (let e : suc n ≡ 1 + n = omega arith in e)
 
-leaves_line : (t : Totals) (kept : List ℕ) (b : ℕ) (bs : List ℕ) (f : Fed) → t.lines < 65535 → eqb b 10 ≡ true → Leaves (plus t (totals_of (outcome_of kept))) [] bs f
-    → Leaves t kept (b ∷ bs) (read_on 1 (text_of (t.lines + 1) (outcome_of kept)) f)
+leaves_line : (t : Totals) (kept : List ℕ) (b : ℕ) (bs : List ℕ) (f : Fed) → t.lines < 65535 → eqb b 10 ≡ true → Leaves (with_line t kept) [] bs f
+    → Leaves t kept (b ∷ bs) (read_on 1 (line_text t kept) f)
 leaves_line t kept b bs f h e g = record {
   rest = λ more.
       rest_line t kept (b ∷ (bs ++ more)) kept (bs ++ more) h (lines_end kept b (bs ++ more) e)
-      ∙ ap (λ (l : List ℕ). text_of (t.lines + 1) (outcome_of kept) ++ l) (g.rest more)
-      ∙ sym (append_assoc (text_of (t.lines + 1) (outcome_of kept)) f.text _)
-      ∙ ap (λ (l : List ℕ). (text_of (t.lines + 1) (outcome_of kept) ++ f.text) ++ rest_of f.totals f.kept (l ++ more)) (drop_one f.used b bs);
+      ∙ ap (λ (l : List ℕ). line_text t kept ++ l) (g.rest more)
+      ∙ sym (append_assoc (line_text t kept) f.text _)
+      ∙ ap (λ (l : List ℕ). (line_text t kept ++ f.text) ++ rest_of f.totals f.kept (l ++ more)) (drop_one f.used b bs);
 }
 
 leaves_byte : (t : Totals) (kept : List ℕ) (b : ℕ) (bs : List ℕ) (f : Fed) → eqb b 10 ≡ false → Leaves t (take 9219 (kept ++ (b ∷ []))) bs f → Leaves t kept (b ∷ bs) (read_on 1 [] f)

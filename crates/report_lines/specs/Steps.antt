@@ -30,16 +30,23 @@ unread t kept = record { used = 0; text = []; totals = t; kept = kept }
 abbrev pub read_on : ℕ → List ℕ → Fed → Fed
 read_on used text f = record { used = used + f.used; text = text ++ f.text; totals = f.totals; kept = f.kept }
 
--- the step after lines with these sums, where of the line that goes on these bytes are kept and the output has so much room, over a chunk: each byte is
--- read as long as another line is; 0a ends a line, which is printed; of a line its first 9,219 bytes are kept, one more than the longest frame without
--- its 0a, so that a longer line shows
+-- what is printed for a line after lines with these sums, and the sums with it
+abbrev pub line_text : Totals → List ℕ → List ℕ
+line_text t line = text_of (t.lines + 1) (outcome_of line)
+
+abbrev pub with_line : Totals → List ℕ → Totals
+with_line t line = plus t (totals_of (outcome_of line))
+
+-- the step over a chunk, after lines with these sums, where these bytes are kept of the line that goes on and the output has so much room: bytes are read
+-- as long as another line is; 0a ends a line, which is printed; of a line its first 9,219 bytes are kept, one more than the longest frame without its 0a,
+-- so that a longer line shows
 unfoldable pub fed : Totals → List ℕ → ℕ → List ℕ → Fed
 fed t kept room [] = unread t kept
 fed t kept room (b ∷ bs) =
     if is_open t.lines room
     then (
       if eqb b 10
-      then read_on 1 (text_of (t.lines + 1) (outcome_of kept)) (fed (plus t (totals_of (outcome_of kept))) [] (room - length (text_of (t.lines + 1) (outcome_of kept))) bs)
+      then read_on 1 (line_text t kept) (fed (with_line t kept) [] (room - length (line_text t kept)) bs)
       else read_on 1 [] (fed t (take 9219 (kept ++ (b ∷ []))) room bs))
     else unread t kept
 

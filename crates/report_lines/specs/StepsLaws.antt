@@ -5,8 +5,8 @@ use Rattle.expr.specs.Outcome.{◌and_then◌}
 use Rattle.frame.specs.FrameLaws.{line_clip}
 use Rattle.lines.specs.LinesLaws.{cases}
 use Rattle.report_lines.specs.declared.Totals.{Totals}
-use Rattle.report_lines.specs.Report.{chained, outcome_of, text_of, plus, totals_of}
-use Rattle.report_lines.specs.Steps.{is_open, Fed, unread, read_on, fed, sound_totals}
+use Rattle.report_lines.specs.Report.{chained, outcome_of}
+use Rattle.report_lines.specs.Steps.{is_open, Fed, unread, read_on, line_text, with_line, fed, sound_totals}
 use Rattle.report_lines.specs.BoundsLaws.{open_lines, open_shut, sound_next}
 
 -- of a line 9,219 bytes are enough
@@ -16,8 +16,8 @@ outcome_clip l = ap (λ o. o and_then chained) (line_clip l)
 
 -- what holds where nothing is read, and of a byte where it holds of the bytes after it, holds of each step
 module _ (P : Totals → List ℕ → List ℕ → Fed → Type 0) (stops : (t : Totals) (kept chunk : List ℕ) → P t kept chunk (unread t kept))
-    (line : (t : Totals) (kept : List ℕ) (b : ℕ) (bs : List ℕ) (f : Fed) → t.lines < 65535 → eqb b 10 ≡ true → P (plus t (totals_of (outcome_of kept))) [] bs f
-      → P t kept (b ∷ bs) (read_on 1 (text_of (t.lines + 1) (outcome_of kept)) f))
+    (line : (t : Totals) (kept : List ℕ) (b : ℕ) (bs : List ℕ) (f : Fed) → t.lines < 65535 → eqb b 10 ≡ true → P (with_line t kept) [] bs f
+      → P t kept (b ∷ bs) (read_on 1 (line_text t kept) f))
     (byte : (t : Totals) (kept : List ℕ) (b : ℕ) (bs : List ℕ) (f : Fed) → eqb b 10 ≡ false → P t (take 9219 (kept ++ (b ∷ []))) bs f → P t kept (b ∷ bs) (read_on 1 [] f)) where
   pub each_byte : (t : Totals) (kept : List ℕ) (room : ℕ) (chunk : List ℕ) → P t kept chunk (fed t kept room chunk)
   unfolding fed
@@ -25,7 +25,7 @@ module _ (P : Totals → List ℕ → List ℕ → Fed → Type 0) (stops : (t :
   each_byte t kept room (b ∷ bs) =
       cases (is_open t.lines room)
       (λ o. rw o (cases (eqb b 10)
-        (λ e. rw e (line t kept b bs _ (open_lines t.lines room o) e (each_byte (plus t (totals_of (outcome_of kept))) [] (room - length (text_of (t.lines + 1) (outcome_of kept))) bs)))
+        (λ e. rw e (line t kept b bs _ (open_lines t.lines room o) e (each_byte (with_line t kept) [] (room - length (line_text t kept)) bs)))
         (λ e. rw e (byte t kept b bs _ e (each_byte t (take 9219 (kept ++ (b ∷ []))) room bs)))))
       (λ o. rw o (stops t kept (b ∷ bs)))
 
