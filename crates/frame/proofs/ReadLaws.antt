@@ -1,35 +1,33 @@
 -- A line that is read. Assumes nothing.
-use Rattle.std.proofs.Common.{◌≡◌, refl, sym, ap, ap₂, subst, ◌∙◌, Bool, true, false, ◌&&◌, List, [], ◌∷◌, ◌++◌, ℕ, suc, ◌+◌, ◌-◌, ◌*◌, ◌/◌, ◌%◌, ◌^◌, ◌≤◌, min, Option, None, Some, MatchOption, Result, Ok, Err, length, take, drop, get_or, arith, length-drop, length-take, take-append-drop, take_all, take_at, lt-ltb, le-ltb, ne_eqb, leb-true, Fits, w32}
+use Rattle.std.proofs.Common.{◌≡◌, refl, sym, ap, ap₂, subst, ◌∙◌, Bool, true, false, ◌&&◌, ◌||◌, List, [], ◌∷◌, ◌++◌, ℕ, suc, ◌+◌, ◌-◌, ◌*◌, ◌/◌, ◌%◌, ◌^◌, ◌≤◌, ◌<◌, min, Option, MatchOption, length, take, drop, get_or, arith, length-take, take_all, lt-ltb, le-ltb, le-leb, ne_eqb, leb-true, Fits, w32, w64}
 use Rattle.std.specs.Bool.{then_some}
-use Rattle.std.specs.Option.{ok_or}
-use Rattle.std.proofs.lemmas.List.{take-append-le}
+use Rattle.std.specs.Prelude.{replicate}
+use Rattle.std.proofs.lemmas.Bool.{lt-leb}
+use Rattle.std.proofs.lemmas.List.{length-replicate}
 use Rattle.std.proofs.Math.Dec.{leb, ltb, eqb}
 use Rattle.std.proofs.Math.Seq.{take-suc}
 use Rattle.arith.specs.ChoiceLaws.{both_true}
-use Rattle.expr.specs.declared.refusal.Refusal.{Refusal}
-use Rattle.expr.specs.declared.refusal.Refusal.TheVariants.{NoFrame}
-use Rattle.expr.specs.Refusals.{refusal, reason_of}
-use Rattle.expr.specs.Outcome.{Outcome, refused, accepted, ◌and_then◌}
-use Rattle.expr.specs.OutcomeLaws.{then_accepted, then_refused}
+use Rattle.expr.specs.declared.refusal.Reason.{Reason}
+use Rattle.expr.specs.Refusals.{refusal}
+use Rattle.expr.specs.Outcome.{Outcome, refused, accepted, mapped}
+use Rattle.expr.specs.OutcomeLaws.{then_accepted, then_refused, refused_then}
 use Rattle.expr.specs.Expr.{Expr, encode, nodes}
 use Rattle.expr.specs.ExprLaws.{length_encode}
 use Rattle.expr.specs.Parts.{tail}
 use Rattle.expr.specs.TailLaws.{tail_drop, length_tail}
-use Rattle.expr.specs.Lent.{over}
+use Rattle.expr.specs.Lent.{over, lent_after}
 use Rattle.hexadecimal.specs.declared.Parsed.{Parsed}
-use Rattle.hexadecimal.specs.Hex.{all_digits, number_of}
-use Rattle.hexadecimal.specs.HexLaws.{all_append, number_below, number_whole}
+use Rattle.hexadecimal.specs.Hex.{digit_of, all_digits, number_of}
+use Rattle.hexadecimal.specs.HexLaws.{digit_cases, all_append, number_below, number_whole}
 use Rattle.hexadecimal.specs.Nodes.{words_of}
 use Rattle.hexadecimal.specs.NodesLaws.{length_words}
-use Rattle.frame.specs.Frame.{nodes_in, line_words, unended, framed, read_frame}
-use Rattle.frame.specs.FrameLaws.{bytes_of_nodes, line_read, unended_last}
-use Rattle.frame.specs.Answers.{line_outcome, Decodes, ReadsLine}
-use Rattle.frame.specs.Promises.{read_line, Reads}
+use Rattle.frame.specs.Frame.{nodes_in, line_words, with_places, read_line, unended, framed, read_frame}
+use Rattle.frame.specs.FrameLaws.{bytes_of_nodes, line_read, read_roomy, told, line_left, unended_last}
 use Rattle.width.specs.Checked.{checked, width_of_call}
-use Rattle.expr.specs.Room.{room_for, with_words}
+use Rattle.expr.specs.Room.{with_words}
 use Rattle.expr.specs.Parse.{parse}
 use Rattle.expr.specs.ParseLaws.{parse_sound}
-use Rattle.width.specs.CheckedLaws.{width_refused, checked_parse, roomy}
+use Rattle.width.specs.CheckedLaws.{width_refused, checked_parse, too_little, enough}
 use Rattle.frame.specs.declared.Frame.{Frame}
 
 -- ---- `nodes_in`
@@ -69,142 +67,153 @@ module _ (line : List ℕ) where
 
 pub ruleset ending = (no_bytes, byte_ends, nothing_ends)
 
+-- ---- `all_digits`
+
+byte_good : (b : ℕ) → ((leb 48 b && leb b 57) || (leb 97 b && leb b 102)) ≡ ltb (digit_of b) 16
+byte_good b =
+    digit_cases (λ n. ((leb 48 b && leb b 57) || (leb 97 b && leb b 102)) ≡ ltb n 16) b
+    (λ p q. rw (le-leb 48 b p, le-leb b 57 (omega arith), lt-ltb (b - 48) 16 (omega arith)) refl)
+    (λ p q. rw (le-leb 48 b (omega arith), lt-leb b 57 (omega arith), le-leb 97 b p, le-leb b 102 (omega arith), lt-ltb (b - 87) 16 (omega arith)) refl)
+    (λ p. rw (lt-leb 48 b p, lt-leb 97 b (omega arith)) refl)
+    (λ p q. rw (le-leb 48 b (omega arith), lt-leb b 57 (omega arith), lt-leb 97 b q) refl)
+    (λ p. rw (le-leb 48 b (omega arith), lt-leb b 57 (omega arith), le-leb 97 b (omega arith), lt-leb b 102 (omega arith)) refl)
+
+pub none_tested : true ≡ all_digits []
+unfolding all_digits
+none_tested = refl
+
+pub one_tested : (bs : List ℕ) (b : ℕ) (good : Bool) → good ≡ all_digits bs → (good && ((leb 48 b && leb b 57) || (leb 97 b && leb b 102))) ≡ all_digits (bs ++ (b ∷ []))
+unfolding all_digits
+one_tested bs b good e = ap₂ ◌&&◌ e (byte_good b ∙ sym (and_true (ltb (digit_of b) 16))) ∙ sym (all_append bs (b ∷ []))
+  where
+    and_true : (p : Bool) → (p && true) ≡ p
+    and_true true = refl
+    and_true false = refl
+
 -- ---- `read_line`
 
--- a line whose digits are not a frame's
-not_lined : (bs words : List ℕ) → (ltb 0 (nodes_in (length bs)) && all_digits bs) ≡ false → Decodes bs words None
-unfolding line_words
-not_lined bs words e = record { is = rw e; few = tt }
+module _ {A B : Type 0} (o : Outcome A) (r : Reason) (e : o ≡ refused r) where
+  pub refusal_answer : (f : A → B) → refused r ≡ mapped f o
+  refusal_answer f = sym (ap (mapped f) e)
 
-pub none_decoded : (line words : List ℕ) → nodes_in (length line) ≡ 0 → Decodes line words None
-none_decoded line words e = not_lined line words (rw (le-ltb 0 (nodes_in (length line)) (omega arith)))
+module _ {A : Type 0} (o : Outcome A) (r : Reason) (e : o ≡ refused r) where
+  pub refusal_keeps : (f : A → List ℕ) (before : List ℕ) → before ≡ lent_after f o before
+  refusal_keeps f before = sym (ap (λ (p : Outcome A). lent_after f p before) e)
+
+not_lined : (line : List ℕ) (room : ℕ) → (ltb 0 (nodes_in (length line)) && all_digits line) ≡ false → read_line line room ≡ refused (refusal 14)
+unfolding read_line line_words
+not_lined line room e = rw e
+
+pub no_length : (line : List ℕ) (room : ℕ) → nodes_in (length line) ≡ 0 → read_line line room ≡ refused (refusal 14)
+no_length line room e = not_lined line room (rw (le-ltb 0 (nodes_in (length line)) (omega (arith, e))))
 
 module _ (line : List ℕ) (n : ℕ) (h : (n ≡ nodes_in (length line)) × (1 ≤ n)) where
   bytes : (length line ≡ 2 + 18 * n) × (n ≤ 512)
-  bytes = let m = bytes_of_nodes (length line) (omega (arith, h)) in (omega arith, omega arith)
+  bytes = let m = bytes_of_nodes (length line) (omega (arith, h)) in (omega (arith, h, m), omega (arith, h, m))
 
   pub width_there : 2 ≤ length line
   width_there = omega (arith, bytes)
 
-  module _ (width : Parsed) (f : width ≡ record { value = number_of (take 2 line) % 2 ^ 64; good = all_digits (take 2 line) }) where
-    value_is : width.value ≡ number_of (take 2 line)
-    value_is = ap (λ (p : Parsed). p.value) f ∙ number_whole (take 2 line) (omega (arith, length-take 2 line))
+  pub words_fit : Fits w64 (2 * n)
+  words_fit = omega (arith, bytes)
 
-    pub width_fits : Fits w32 width.value
-    width_fits = omega (arith, value_is, number_below (take 2 line) 2 (omega (arith, length-take 2 line)))
+  module _ (good : Bool) (g : good ≡ all_digits line) where
+    pub bad_digit : good ≡ false → (room : ℕ) → read_line line room ≡ refused (refusal 14)
+    bad_digit e room = not_lined line room (rw (lt-ltb 0 (nodes_in (length line)) (omega (arith, h)), sym g ∙ e))
 
-    module _ (before : List ℕ) (room : 1024 ≤ length before) where
-      all_nodes : min (length (tail 2 line) / 18) (length before / 2) ≡ n
-      all_nodes = omega (arith, bytes, length_tail 2 line)
+    module _ (e : good ≡ true) where
+      lined : (room : ℕ) → read_line line room ≡ with_places room (number_of (take 2 line), words_of n (drop 2 line))
+      unfolding read_line
+      lined room =
+          then_accepted (line_read line (omega (arith, h)) (sym g ∙ e)) (with_places room)
+          ∙ ap (λ (i : ℕ). with_places room (number_of (take 2 line), words_of i (drop 2 line))) (sym h.0)
 
-      module _ (good : Bool) (g : good ≡ all_digits (take (18 * min (length (tail 2 line) / 18) (length before / 2)) (tail 2 line))) where
-        good_is : (width.good && good) ≡ all_digits line
-        good_is =
-            ap₂ ◌&&◌ (ap (λ (p : Parsed). p.good) f)
-            (g ∙ ap₂ (λ (i : ℕ) (bs : List ℕ). all_digits (take (18 * i) bs)) all_nodes (tail_drop 2 line)
-            ∙ ap all_digits (take_all (18 * n) (drop 2 line) (omega (arith, bytes, length-drop 2 line))))
-            ∙ sym (all_append (take 2 line) (drop 2 line))
-            ∙ ap all_digits (take-append-drop 2 line)
+      pub too_few : (room : ℕ) → room < 2 * n → read_line line room ≡ refused (refusal 9)
+      unfolding with_places
+      too_few room l = lined room ∙ rw (lt-ltb room (length (words_of n (drop 2 line))) (omega (arith, length_words n (drop 2 line))))
 
-        bad_digit : (width.good && good) ≡ false → (words : List ℕ) → Decodes line words None
-        bad_digit e words = not_lined line words (rw (lt-ltb 0 (nodes_in (length line)) (omega (arith, h)), sym good_is ∙ e))
+      module _ (before : List ℕ) (l : 2 * n ≤ length before) where
+        with_room : read_line line (length before) ≡ accepted (number_of (take 2 line), words_of n (drop 2 line))
+        unfolding with_places
+        with_room = lined (length before) ∙ rw (le-ltb (length before) (length (words_of n (drop 2 line))) (omega (arith, length_words n (drop 2 line))))
 
-        decoded : (width.good && good) ≡ true → (words : List ℕ) → words ≡ over (words_of (min (length (tail 2 line) / 18) (length before / 2)) (tail 2 line)) before
-            → Decodes line words (Some (record { width = width.value; nodes = n }))
-        decoded e words l =
-            let laid : words ≡ over (words_of n (drop 2 line)) before = l ∙ ap₂ (λ (i : ℕ) (bs : List ℕ). over (words_of i bs) before) all_nodes (tail_drop 2 line) in
-            let front : take (2 * n) words ≡ words_of n (drop 2 line) = ap (take (2 * n)) laid ∙ take_at (words_of n (drop 2 line)) _ (2 * n) (length_words n (drop 2 line)) in
-            record {
-              is =
-                  line_read line (omega (arith, h)) (sym good_is ∙ e)
-                  ∙ ap₂ (λ (v : ℕ) (vs : List ℕ). accepted (v, vs)) (sym value_is) (ap (λ (i : ℕ). words_of i (drop 2 line)) (sym h.0) ∙ sym front);
-              few = bytes.1;
-            }
+        pub words_left : (after : List ℕ) → after ≡ over (words_of (min (length (tail 2 line) / 18) (length before / 2)) (tail 2 line)) before
+            → after ≡ lent_after (λ p. p.1) (read_line line (length before)) before
+        words_left after m =
+            let all : min (length (tail 2 line) / 18) (length before / 2) ≡ n = omega (arith, bytes, length_tail 2 line) in
+            m ∙ ap₂ (λ (i : ℕ) (bs : List ℕ). over (words_of i bs) before) all (tail_drop 2 line) ∙ sym (ap (λ (o : Outcome (ℕ × List ℕ)). lent_after (λ p. p.1) o before) with_room)
 
-        pub digits_read : (r : Option Frame) → r ≡ then_some (width.good && good) (record { width = width.value; nodes = n }) → (words : List ℕ)
-            → words ≡ over (words_of (min (length (tail 2 line) / 18) (length before / 2)) (tail 2 line)) before → Decodes line words r
-        digits_read r e words l = subst (Decodes line words) (sym e) (go (width.good && good) refl)
-          where
-            go : (b : Bool) → (width.good && good) ≡ b → Decodes line words (then_some b (record { width = width.value; nodes = n }))
-            go true f = decoded f words l
-            go false f = bad_digit f words
+        module _ (width : Parsed) (f : width ≡ record { value = number_of (take 2 line) % 2 ^ 64; good = all_digits (take 2 line) }) where
+          value_is : width.value ≡ number_of (take 2 line)
+          value_is = ap (λ (p : Parsed). p.value) f ∙ number_whole (take 2 line) (omega (arith, length-take 2 line))
 
-pub ruleset decoding = (none_decoded, width_there, width_fits, digits_read)
+          pub width_fits : Fits w32 width.value
+          width_fits = omega (arith, value_is, number_below (take 2 line) 2 (omega (arith, length-take 2 line)))
 
--- words behind those that a line is read to
-pub front_decoded : (line words rest : List ℕ) (o : Option Frame) → Decodes line words o → 1024 ≤ length words → Decodes line (words ++ rest) o
-front_decoded line words rest None d l = record { is = d.is; few = d.few }
-front_decoded line words rest (Some f) d l = record { is = d.is ∙ ap (λ (vs : List ℕ). accepted (f.width, vs)) (sym (take-append-le (2 * f.nodes) words rest (omega (arith, d.few)))); few = d.few }
+          pub line_answer : accepted (record { width = width.value; nodes = n }) ≡ mapped told (read_line line (length before))
+          line_answer =
+              let half : n ≡ length (words_of n (drop 2 line)) / 2 = omega (arith, length_words n (drop 2 line)) in
+              ap₂ (λ (v i : ℕ). accepted (record { width = v; nodes = i })) value_is half ∙ sym (ap (mapped told) with_room)
 
-pub line_answered : (line before after : List ℕ) → 1024 ≤ length before → (o : Option Frame) → Decodes line after o → (r : Result Frame Refusal) → r ≡ ok_or o NoFrame → ReadsLine line before after r
-line_answered line before after room o d r e = subst (ReadsLine line before after) (sym e) (go o d)
-  where
-    go : (o : Option Frame) → Decodes line after o → ReadsLine line before after (ok_or o NoFrame)
-    go None d = record { short = λ s. absurd (omega arith); read = λ h. d; none = λ h f i. grind arith }
-    go (Some f) d = record { short = λ s. absurd (omega arith); read = λ h. d; none = λ h f i. grind arith }
+pub ruleset lining = (refusal_answer, refusal_keeps, no_length, width_there, words_fit, bad_digit, too_few, words_left, width_fits, line_answer)
 
 -- ---- `hand_over`
 
 abbrev at_width : ℕ → Expr → Outcome (ℕ × Expr)
 at_width w t = accepted (w, t)
 
-reads_refused : (o : Outcome (ℕ × Expr)) (r : Refusal) (before : List ℕ) → o ≡ refused (reason_of r) → Reads o (Err r) before before
-reads_refused o r before e = subst (λ (p : Outcome (ℕ × Expr)). Reads p (Err r) before before) (sym e) (record { answer = refl; memory = refl })
-
-same_room : (room : ℕ) (t : Expr) → room_for (λ u. 2 * (nodes u + 0)) room t ≡ with_words room t
-unfolding room_for
-same_room room t = let e : 2 * (nodes t + 0) ≡ 2 * nodes t = omega arith in rw e
-
-module _ (w : ℕ) (ws before : List ℕ) where
-  abbrev answer : Outcome (ℕ × Expr)
-  answer = framed (length before) (w, ws)
-
-  not_checked : (r : Refusal) → refused (reason_of r) ≡ checked w ws → Reads answer (Err r) before before
+module _ (w : ℕ) (ws : List ℕ) (room : ℕ) where
+  not_checked : (r : Reason) → refused r ≡ checked w ws → framed room (w, ws) ≡ refused r
   unfolding framed
-  not_checked r e = reads_refused answer r before (then_refused (then_refused (sym e) (with_words (length before))) (at_width w))
+  not_checked r e = then_refused (then_refused (sym e) (with_words room)) (at_width w)
 
-  pub width_no : (r : Refusal) → refused (reason_of r) ≡ width_of_call w → Reads answer (Err r) before before
-  width_no r e = not_checked r (width_refused w (reason_of r) e ws)
+  pub width_no : (r : Reason) → refused r ≡ width_of_call w → framed room (w, ws) ≡ refused r
+  width_no r e = not_checked r (width_refused w r e ws)
 
   module _ (b : ℕ) (e : accepted b ≡ width_of_call w) where
-    pub words_no : (r : Refusal) → refused (reason_of r) ≡ parse ws → Reads answer (Err r) before before
+    pub words_no : (r : Reason) → refused r ≡ parse ws → framed room (w, ws) ≡ refused r
     words_no r f = not_checked r (f ∙ checked_parse w b e ws)
 
     module _ (t : Expr) (f : accepted t ≡ parse ws) where
-      with_room : (o : Outcome Expr) → o ≡ room_for (λ u. 2 * (nodes u + 0)) (length before) t → (checked w ws and_then with_words (length before)) ≡ o
-      with_room o g = then_accepted (sym (f ∙ checked_parse w b e ws)) (with_words (length before)) ∙ sym (same_room (length before) t) ∙ sym g
+      is_checked : checked w ws ≡ accepted t
+      is_checked = sym (f ∙ checked_parse w b e ws)
 
-      pub room_no : (r : Refusal) → refused (reason_of r) ≡ room_for (λ u. 2 * (nodes u + 0)) (length before) t → Reads answer (Err r) before before
+      is : ws ≡ encode t
+      is = (parse_sound ws t (sym f)).words
+
+      pub room_no : room < length ws → framed room (w, ws) ≡ refused (refusal 9)
       unfolding framed
-      room_no r g = reads_refused answer r before (then_refused (with_room _ g) (at_width w))
+      room_no l = then_refused (too_little (λ u. 2 * nodes u) room is_checked (omega (arith, ap length is, length_encode t))) (at_width w)
 
-      pub handed : (u : Expr) → accepted u ≡ room_for (λ v. 2 * (nodes v + 0)) (length before) t → (n : ℕ) → n ≡ nodes u → (after : List ℕ) → after ≡ over (take (length before) ws) before → Reads answer (Ok (record { width = w; nodes = n })) before after
-      unfolding framed
-      handed u g n h after m =
-          let k = roomy (λ (v : Expr). 2 * nodes v) (length before) (checked w ws) (with_room _ g) in
-          let x : ws ≡ encode u = (parse_sound ws u (checked_parse w b e ws ∙ k.0)).words in
-          let y : answer ≡ accepted (w, u) = then_accepted (with_room _ g) (at_width w) in
-          let z : length ws ≤ length before = omega (arith, ap length x, length_encode u, k.1) in
-          subst (λ (o : Outcome (ℕ × Expr)). Reads o (Ok (record { width = w; nodes = n })) before after) (sym y)
-          (record { answer = ap (λ (i : ℕ). accepted (record { width = w; nodes = i })) h; memory = m ∙ ap (λ (vs : List ℕ). over vs before) (take_all (length before) ws z ∙ x) })
+      module _ (l : length ws ≤ room) where
+        pub handed : framed room (w, ws) ≡ accepted (w, t)
+        unfolding framed
+        handed = then_accepted (enough (λ u. 2 * nodes u) room is_checked (omega (arith, ap length is, length_encode t))) (at_width w)
 
--- ---- `read_by` and `read_frame`
+        pub copied : (before after : List ℕ) → after ≡ over (take room ws) before → after ≡ lent_after (λ p. encode p.1) (framed room (w, ws)) before
+        copied before after m =
+            m ∙ ap (λ (vs : List ℕ). over vs before) (take_all room ws l ∙ is) ∙ sym (ap (λ (o : Outcome (ℕ × Expr)). lent_after (λ p. encode p.1) o before) handed)
 
-module _ (bs words : List ℕ) (o : Option Frame) (d : Decodes bs words o) where
-  pub no_line : o ≡ None → (before : List ℕ) → Reads (read_line bs (length before)) (Err NoFrame) before before
-  unfolding read_line
-  no_line e before =
-      let f : line_words bs ≡ refused (refusal 14) = d.is ∙ ap (λ (p : Option Frame). line_outcome p words) e in
-      reads_refused (line_words bs and_then framed (length before)) NoFrame before (then_refused f (framed (length before)))
+pub ruleset handing = (refusal_answer, refusal_keeps, width_no, words_no, room_no, handed, copied)
 
-  pub line_handed : (f : Frame) → o ≡ Some f → (r : Result Frame Refusal) (before after : List ℕ)
-      → Reads (framed (length before) (f.width, take (2 * f.nodes) words)) r before after → Reads (read_line bs (length before)) r before after
-  unfolding read_line
-  line_handed f e r before after h =
-      let g : line_words bs ≡ accepted (f.width, take (2 * f.nodes) words) = d.is ∙ ap (λ (p : Option Frame). line_outcome p words) e in
-      subst (λ (p : Outcome (ℕ × Expr)). Reads p r before after) (sym (then_accepted g (framed (length before)))) h
+-- ---- `read_frame`
 
--- the line with its 0a
-pub read_whole : (line bs : List ℕ) → bs ≡ unended line → (room : ℕ) (r : Result Frame Refusal) (before after : List ℕ) → Reads (read_line bs room) r before after → Reads (read_frame line room) r before after
-unfolding read_line read_frame
-read_whole line bs e room r before after h = subst (λ (l : List ℕ). Reads (line_words l and_then framed room) r before after) e h
+module _ (line bs : List ℕ) (e : bs ≡ unended line) (room : ℕ) where
+  -- the words that it reads into
+  abbrev own : List ℕ
+  own = replicate 1024 0
+
+  -- they have room for every line
+  came : read_line bs (length own) ≡ line_words (unended line)
+  came = read_roomy bs (length own) (omega (arith, length-replicate {0} {A = ℕ} 1024 0)) ∙ ap line_words e
+
+  pub not_read : (r : Reason) → refused r ≡ mapped told (read_line bs (length own)) → read_frame line room ≡ refused r
+  unfolding read_frame
+  not_read r f = sym (refused_then told (framed room) (line_words (unended line)) (f ∙ ap (mapped told) came))
+
+  pub was_read : (f : Frame) (after : List ℕ) → accepted f ≡ mapped told (read_line bs (length own)) → after ≡ lent_after (λ p. p.1) (read_line bs (length own)) own
+      → read_frame line room ≡ framed room (f.width, take (2 * f.nodes) after)
+  unfolding read_frame
+  was_read f after h l = then_accepted (ap line_words (sym e) ∙ (line_left bs own after f h l).is) (framed room)
+
+pub ruleset frames = (refusal_answer, refusal_keeps, not_read, was_read)

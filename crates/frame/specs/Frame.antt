@@ -35,6 +35,14 @@ line_words bs =
     then accepted (number_of (take 2 bs), words_of (nodes_in (length bs)) (drop 2 bs))
     else refused (refusal 14)
 
+-- 9 where so many places have no room for a line's words
+unfoldable pub with_places : ℕ → ℕ × List ℕ → Outcome (ℕ × List ℕ)
+with_places room (w, ws) = if ltb room (length ws) then refused (refusal 9) else accepted (w, ws)
+
+-- `read_line`: the width and the words of a line, its 0a not counted, or the refusal: 14, then 9
+unfoldable pub read_line : List ℕ → ℕ → Outcome (ℕ × List ℕ)
+read_line line room = line_words line and_then with_places room
+
 -- a line without its one final 0a
 unfoldable pub unended : List ℕ → List ℕ
 unended [] = []

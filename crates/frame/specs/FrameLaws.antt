@@ -5,8 +5,8 @@ use Rattle.std.proofs.Math.ListN.{get_or-append}
 use Rattle.std.proofs.lemmas.Bool.{lt-leb}
 use Rattle.arith.specs.ChoiceLaws.{both_true}
 use Rattle.expr.specs.Refusals.{refusal}
-use Rattle.expr.specs.Outcome.{refused, accepted, ◌and_then◌}
-use Rattle.expr.specs.OutcomeLaws.{no_answer, same_answer, if_came, then_accepted, then_came}
+use Rattle.expr.specs.Outcome.{Outcome, refused, accepted, mapped, ◌and_then◌}
+use Rattle.expr.specs.OutcomeLaws.{no_answer, same_answer, if_came, else_came, then_accepted, mapped_made, then_came}
 use Rattle.expr.specs.Expr.{Expr, leaf, unary, binary, encode, nodes}
 use Rattle.expr.specs.ExprLaws.{nodes_pos, length_encode}
 use Rattle.expr.specs.KindLaws.{number, operand, kind_back}
@@ -17,12 +17,14 @@ use Rattle.width.specs.WidthLaws.{supported_is}
 use Rattle.width.specs.Checked.{checked}
 use Rattle.expr.specs.Room.{room_for, with_words}
 use Rattle.width.specs.CheckedLaws.{admitted_sound}
+use Rattle.expr.specs.Lent.{lent_after}
 use Rattle.hexadecimal.specs.Hex.{digits, all_digits, number_of}
 use Rattle.hexadecimal.specs.HexLaws.{all_append, all_take, all_drop, all_digits_lem, length_digits, number_digits, digits_number}
 use Rattle.hexadecimal.specs.Nodes.{nodes_text, words_of}
 use Rattle.hexadecimal.specs.NodesLaws.{NodeWords, next, length_nodes, length_words, all_nodes, words_nodes, nodes_words}
 use Rattle.hexadecimal.specs.NodesLaws as hex
-use Rattle.frame.specs.Frame.{frame, nodes_in, line_words, unended, framed, read_frame}
+use Rattle.frame.specs.Frame.{frame, nodes_in, line_words, with_places, read_line, unended, framed, read_frame}
+use Rattle.frame.specs.declared.Frame.{Frame}
 
 -- ---- how long frames are
 
@@ -89,6 +91,52 @@ line_clip bs = go (leb (length bs) 9219) refl
     go false e =
         let h = leb-false (length bs) 9219 e in
         too_long (take 9219 bs) (omega (arith, length-take-le 9219 bs (omega arith))) ∙ sym (too_long bs (omega arith))
+
+-- ---- lines that are read
+
+-- the answer for a width and words
+abbrev pub told : ℕ × List ℕ → Frame
+told p = record { width = p.0; nodes = length p.1 / 2 }
+
+module _ (line : List ℕ) where
+  line_few : (w : ℕ) (ws : List ℕ) → line_words line ≡ accepted (w, ws) → (length ws ≡ 2 * nodes_in (length line)) × (nodes_in (length line) ≤ 512)
+  line_few w ws e =
+      let l = line_is line w ws e in
+      (ap length l.words_are ∙ length_words (nodes_in (length line)) (drop 2 line), (bytes_of_nodes (length line) l.some).1)
+
+  -- 1,024 words have room for every line's
+  pub read_roomy : (room : ℕ) → 1024 ≤ room → read_line line room ≡ line_words line
+  unfolding read_line with_places
+  read_roomy room h = go (line_words line) refl
+    where
+      go : (o : Outcome (ℕ × List ℕ)) → line_words line ≡ o → (o and_then with_places room) ≡ o
+      go (refused r) e = refl
+      go (accepted p) e = rw (le-ltb room (length p.1) (omega (arith, line_few p.0 p.1 e)))
+
+  -- what an answer of `read_line` says of the line, and of the words that it leaves
+  pub record Read (f : Frame) (after : List ℕ) : Type 0 where
+    pub is : line_words line ≡ accepted (f.width, take (2 * f.nodes) after)
+    pub few : f.nodes ≤ 512
+
+  module _ (before after : List ℕ) where
+    abbrev came : Outcome (ℕ × List ℕ)
+    came = read_line line (length before)
+
+    pub line_left : (f : Frame) → accepted f ≡ mapped told came → after ≡ lent_after (λ p. p.1) came before → Read f after
+    unfolding read_line with_places
+    line_left f e l =
+        let m = mapped_made told came e in
+        let c = then_came (with_places (length before)) (line_words line) m.was in
+        let k = else_came (accepted c.answer) (refusal 9) (ltb (length before) (length c.answer.1)) c.made in
+        let was : line_words line ≡ accepted m.answer = c.was ∙ ap accepted (same_answer k.1) in
+        let few = line_few m.answer.0 m.answer.1 was in
+        let half : length m.answer.1 ≡ 2 * f.nodes = omega (arith, few, ap (λ (g : Frame). g.nodes) m.made) in
+        let front : take (2 * f.nodes) after ≡ m.answer.1 =
+        ap (take (2 * f.nodes)) (l ∙ ap (λ (o : Outcome (ℕ × List ℕ)). lent_after (λ p. p.1) o before) m.was) ∙ take_at m.answer.1 (drop (length m.answer.1) before) (2 * f.nodes) half in
+        record {
+          is = was ∙ ap₂ (λ (v : ℕ) (vs : List ℕ). accepted (v, vs)) (ap (λ (g : Frame). g.width) m.made) (sym front);
+          few = omega (arith, few, half);
+        }
 
 cons_if : (t : Bool) (b : ℕ) (bs cs : List ℕ) → (b ∷ (if t then bs else cs)) ≡ (if t then b ∷ bs else b ∷ cs)
 cons_if true b bs cs = refl

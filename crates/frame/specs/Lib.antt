@@ -1,4 +1,2 @@
 pub mod Frame
-pub mod Answers
-pub mod Promises
 pub mod FrameLaws

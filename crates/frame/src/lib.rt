@@ -1,16 +1,14 @@
 // Frames: a tree and a width as one line of lower-case hexadecimal.
 #![tactic(auto)]
 
-ghost use Rattle.std.specs.Prelude.{◌≡◌, [], ◌∷◌, ◌++◌, ◌+◌, ◌*◌, ◌/◌, ◌≤◌, length, MatchOption};
+ghost use Rattle.std.specs.Prelude.{◌≡◌, ◌+◌, ◌*◌, ◌/◌, ◌≤◌, length, MatchOption};
 ghost use Rattle.expr.specs.Outcome.{mapped};
 ghost use Rattle.expr.specs.Answers.{outcome};
 ghost use Rattle.expr.specs.Expr.{encode, nodes};
-ghost use Rattle.expr.specs.Lent.{over, lent_after};
-ghost use Rattle.hexadecimal.specs.Hex.{digits};
-ghost use Rattle.hexadecimal.specs.Nodes.{nodes_text};
-ghost use Rattle.frame.specs.Frame.{frame, nodes_in, unended, framed, write_frame, read_frame};
-ghost use Rattle.frame.specs.Answers.{Decodes, ReadsLine, PutsFrame};
-ghost use Rattle.frame.specs.Promises.{read_line, Reads};
+ghost use Rattle.expr.specs.Trees.{tree_of};
+ghost use Rattle.expr.specs.Lent.{lent_after};
+ghost use Rattle.hexadecimal.specs.Hex.{all_digits};
+ghost use Rattle.frame.specs.Frame.{frame, with_bytes, nodes_in, unended, framed, read_line, write_frame, read_frame};
 
 use expr::refusal::Refusal;
 use expr::tree::Tree;
@@ -34,6 +32,7 @@ pub fn nodes_in(bytes: usize) -> Option<usize>
 // ---- reading
 
 // A line without its one final 0a.
+#[tactic(auto, using(crate::proofs::ReadLaws::ending))]
 fn without_end(line: &[u8]) -> &[u8]
     ensures { result.now ≡ unended line.now }
 {
@@ -43,35 +42,49 @@ fn without_end(line: &[u8]) -> &[u8]
     }
 }
 
-// Reads a line, its 0a not counted, with no look at the tree: puts its words at the front of `words`. Where the line is no frame, words may
-// be written too.
-fn decode(line: &[u8], words: &mut [u64; 1024]) -> Option<Frame>
-    ensures reads { Decodes line.now words.new result }
-    ensures size { length words.new ≡ 1024 }
+// Whether every byte is a digit. No `all`: it looks at each of them, so that the compiler does so for many in one step.
+fn all_digits(bytes: &[u8]) -> bool
+    ensures { result ≡ all_digits bytes.now }
 {
-    let nodes = nodes_in(line.len())?;
+    bytes.iter().fold(true, |good, b| {
+        good & (((b'0' <= *b) & (*b <= b'9')) | ((b'a' <= *b) & (*b <= b'f')))
+    })
+}
+
+// Reads a line, its 0a not counted, with no look at the tree: puts its words at the front of `words`, once nothing is to be refused.
+#[tactic(auto, using(crate::proofs::ReadLaws::lining))]
+pub fn read_line(line: &[u8], words: &mut [u64]) -> Result<Frame, Refusal>
+    ensures answer { outcome result ≡ mapped (λ p. record { width = p.0; nodes = length p.1 / 2 }) (read_line line.now (length words.old)) }
+    ensures written { words.new ≡ lent_after (λ p. p.1) (read_line line.now (length words.old)) words.old }
+{
+    let Some(nodes) = nodes_in(line.len()) else {
+        return Err(Refusal::NoFrame);
+    };
+    if !all_digits(line) {
+        return Err(Refusal::NoFrame);
+    }
+    if words.len() < 2 * nodes {
+        return Err(Refusal::OutputTooSmall);
+    }
     let width = hexadecimal::number(&line[..2]);
-    let good = hexadecimal::read_nodes(&line[2..], words);
-    (width.good & good).then_some(Frame {
+    hexadecimal::read_nodes(&line[2..], words);
+    Ok(Frame {
         width: width.value as u32,
         nodes,
     })
 }
 
-// The same for words that are lent from outside: 9 where they are fewer than 1,024, and then nothing is written.
-pub fn read_line(line: &[u8], words: &mut [u64]) -> Result<Frame, Refusal>
-    ensures { ReadsLine line.now words.old words.new result }
-{
-    let words = words.first_chunk_mut().ok_or(Refusal::OutputTooSmall)?;
-    decode(line, words).ok_or(Refusal::NoFrame)
-}
-
 // Hands the tree that the words are over to `out`, once nothing is to be refused.
+#[tactic(auto, using(crate::proofs::ReadLaws::handing))]
 fn hand_over(words: &[u64], width: u32, out: &mut [u64]) -> Result<Frame, Refusal>
-    ensures { Reads (framed (length out.old) (width, words.now)) result out.old out.new }
+    ensures answer { outcome result ≡ mapped (λ p. record { width = p.0; nodes = nodes p.1 }) (framed (length out.old) (width, words.now)) }
+    ensures written { out.new ≡ lent_after (λ p. encode p.1) (framed (length out.old) (width, words.now)) out.old }
 {
     Width::try_from(width)?;
-    let tree = Tree::read(words)?.with_room(out.len(), 0)?;
+    let tree = Tree::read(words)?;
+    if out.len() < words.len() {
+        return Err(Refusal::OutputTooSmall);
+    }
     expr::copy_words(words, out);
     Ok(Frame {
         width,
@@ -79,57 +92,42 @@ fn hand_over(words: &[u64], width: u32, out: &mut [u64]) -> Result<Frame, Refusa
     })
 }
 
-// Reads a line, its 0a not counted. Its words go to `words` first, so that `out` is as it was where the line is refused.
-fn read_by(line: &[u8], words: &mut [u64; 1024], out: &mut [u64]) -> Result<Frame, Refusal>
-    ensures { Reads (read_line line.now (length out.old)) result out.old out.new }
-{
-    let read = decode(line, words).ok_or(Refusal::NoFrame)?;
-    hand_over(&words[..2 * read.nodes], read.width, out)
-}
-
 // Reads a line, with or without its one final 0a: puts the words of its tree at the front of `out`.
+#[tactic(auto, using(crate::proofs::ReadLaws::frames))]
 pub fn read_frame(line: &[u8], out: &mut [u64]) -> Result<Frame, Refusal>
     ensures answer { outcome result ≡ mapped (λ p. record { width = p.0; nodes = nodes p.1 }) (read_frame line.now (length out.old)) }
     ensures written { out.new ≡ lent_after (λ p. encode p.1) (read_frame line.now (length out.old)) out.old }
 {
-    // fixed memory: as many words as the largest frame has
+    // as many words as the largest frame has; `out` is as it was where the tree is refused
     let mut words = [0; 1024];
-    read_by(without_end(line), &mut words, out)
+    let read = read_line(without_end(line), &mut words)?;
+    hand_over(&words[..2 * read.nodes], read.width, out)
 }
 
 // ---- writing
 
-// Puts the width, the nodes and 0a at the front of `out`; how many bytes they are.
-fn lay_frame(words: &[u64], width: u32, out: &mut [u8]) -> usize
-    requires { 3 + 18 * (length words.now / 2) ≤ length out.old }
-    ensures count { result ≡ 3 + 18 * (length words.now / 2) }
-    ensures written { out.new ≡ over (digits 2 width ++ (nodes_text (length words.now / 2) words.now ++ (10 ∷ []))) out.old }
+// Puts the frame of a tree at the front of `out`, its 0a included; how many bytes it is.
+#[tactic(auto, using(crate::proofs::PutLaws::putting))]
+pub fn put_frame(tree: Tree<'_>, width: Width, out: &mut [u8]) -> Result<usize, Refusal>
+    ensures answer { outcome result ≡ mapped (λ t. 3 + 18 * nodes t) (with_bytes (length out.old) (tree_of tree.entry)) }
+    ensures written { out.new ≡ lent_after (frame width.bits) (with_bytes (length out.old) (tree_of tree.entry)) out.old }
 {
-    let last = 2 + 18 * (words.len() / 2);
-    hexadecimal::put_digits(u64::from(width), 2, out);
-    hexadecimal::put_nodes(words, &mut out[2..]);
-    out[last] = b'\n';
-    last + 1
-}
-
-// The same with no look at the tree, for an output that is lent from outside: 9 where it has no room for them.
-pub fn put_frame(words: &[u64], width: u32, out: &mut [u8]) -> Result<usize, Refusal>
-    ensures { PutsFrame words.now width out.old out.new result }
-{
-    if out.len() < 3 + 18 * (words.len() / 2) {
+    let last = 2 + 18 * tree.nodes();
+    if out.len() <= last {
         return Err(Refusal::OutputTooSmall);
     }
-    Ok(lay_frame(words, width, out))
+    hexadecimal::put_digits(u64::from(width.bits), 2, out);
+    hexadecimal::put_nodes(tree.words, &mut out[2..]);
+    out[last] = b'\n';
+    Ok(last + 1)
 }
 
-// Puts the frame of a tree, its 0a included, at the front of `out`; how many bytes it is.
+// The same of the tree that the words are, or the refusal.
+#[tactic(auto, using(crate::proofs::PutLaws::writing))]
 pub fn write_frame(words: &[u64], width: u32, out: &mut [u8]) -> Result<usize, Refusal>
     ensures answer { outcome result ≡ mapped (λ t. 3 + 18 * nodes t) (write_frame words.now width (length out.old)) }
     ensures written { out.new ≡ lent_after (frame width) (write_frame words.now width (length out.old)) out.old }
 {
-    let nodes = width::check_tree_at(words, width)?;
-    if out.len() < 3 + 18 * nodes {
-        return Err(Refusal::OutputTooSmall);
-    }
-    Ok(lay_frame(words, width, out))
+    let width = Width::try_from(width)?;
+    put_frame(Tree::read(words)?, width, out)
 }

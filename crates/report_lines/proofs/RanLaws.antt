@@ -23,7 +23,7 @@ use Rattle.expr.specs.PartLaws.{exact_tree, exact_whole}
 use Rattle.expr.specs.Room.{room_for}
 use Rattle.width.specs.CheckedLaws.{enough, roomy}
 use Rattle.value.specs.Value.{one_width_of}
-use Rattle.value.specs.ValueLaws.{one_width_sound}
+use Rattle.value.specs.ValueLaws.{OneWidth, one_width_sound}
 use Rattle.rewriting.specs.Measures.{D}
 use Rattle.rewriting.specs.Chain.{last_of, trees_of}
 use Rattle.rewriting.specs.ChainLaws.{listed_is}
@@ -61,8 +61,11 @@ other_refusal ws w widths a b r n e = go (one_width_of ws w widths) e
 -- ---- the end tree in the work
 
 module _ (ws : List ℕ) (w : ℕ) (t : Expr) (after rest work : List ℕ) (n k : ℕ) (o : one_width_of ws w [] ≡ accepted t) (c : Chained w [] t after n k) (e : work ≡ after ++ rest) where
+  sound : OneWidth ws w [] t
+  sound = one_width_sound ws w [] t o
+
   accepts : Accepts ws t
-  accepts = parse_sound ws t (one_width_sound ws w [] t o).parsed
+  accepts = parse_sound ws t sound.parsed
 
   exactly : Exactly ws t
   exactly = record { words = accepts.words; operands = accepts.valid.operands }
@@ -100,6 +103,8 @@ module _ (ws : List ℕ) (w : ℕ) (t : Expr) (after rest work : List ℕ) (n k 
       exact_whole (take (2 * n) work) c.end end_exactly,
       omega (arith, ap length e, length-append after rest, ap length c.words, length-append (encode c.end) (replicate (length after - length (encode c.end)) 0), length_encode c.end, c.nodes_is),
       omega (arith, c.nodes_is, c.no_more_nodes, accepts.valid.count),
+      sound.at_least,
+      sound.at_most,
     );
   }
 

@@ -6,6 +6,7 @@ use Rattle.expr.specs.Parts.{Laid}
 use Rattle.hexadecimal.specs.Hex.{hex_text}
 use Rattle.report_lines.specs.declared.Totals.{Totals}
 use Rattle.report_lines.specs.declared.State.{State}
+use Rattle.report_lines.specs.declared.line.Accepted.{Accepted}
 use Rattle.report_lines.specs.Report.{Done, text_of, plus, totals_of, closing}
 use Rattle.report_lines.specs.Steps.{read_on, fed, rest_of}
 
@@ -39,12 +40,16 @@ pub record Printed (o : Outcome Done) (t : Totals) (before after : List ℕ) (pu
 unfoldable pub done_by : ℕ → List ℕ → List ℕ → ℕ → Done
 done_by w ws es rewrites = record { width = w; tree = tree_at ws; end = tree_at es; rewrites = rewrites }
 
--- the chain of the words' tree has ended with this answer: the end tree's words are at the front of the work
+-- an accepted line that was worked out
+abbrev pub done_of : Accepted → Done
+done_of a = done_by a.width.bits a.tree.words.now a.end.words.now a.rewrites
+
+-- the chain of the words' tree has ended with this answer: the width is supported, and the end tree's words are at the front of the work
 unfoldable pub Reaches : Outcome Done → ℕ → List ℕ → List ℕ → Outcome (ℕ × ℕ) → Type 0
 Reaches (refused r) w ws work answer = answer ≡ refused r
 Reaches (accepted d) w ws work answer =
     (n : ℕ) × (k : ℕ) × (answer ≡ accepted (n, k)) × (d ≡ done_by w ws (take (2 * n) work) k) × Whole ws × Whole (take (2 * n) work)
-    × (2 * n ≤ length work) × (2 * n ≤ 1024)
+    × (2 * n ≤ length work) × (2 * n ≤ 1024) × (1 ≤ w) × (w ≤ 64)
 
 pub record Ran (o : Outcome Done) (w : ℕ) (ws work : List ℕ) (answer : Outcome (ℕ × ℕ)) : Type 0 where
   pub reaches : Reaches o w ws work answer
