@@ -12,24 +12,24 @@ use expr::tree::Tree;
 // The place of an addend's subtree in the words of the sum, and whether it is subtracted: a record of start, length and sign, as document 01 asks.
 #[derive(Clone, Copy, Default)]
 pub(crate) struct Addend {
-    pub start: usize,
-    pub len: usize,
-    pub negated: bool,
+    start: usize,
+    len: usize,
+    negated: bool,
 }
 
 // A subtree that is added or, where `negated`, subtracted.
 #[derive(Clone, Copy)]
 pub(crate) struct SignedTree<'a> {
-    pub tree: Tree<'a>,
-    pub negated: bool,
+    pub(crate) tree: Tree<'a>,
+    pub(crate) negated: bool,
 }
 
 // The addends of a tree: the first `count` of the list.
 #[derive(Clone, Copy)]
 pub(crate) struct Addends<'a> {
-    pub node: Tree<'a>,
+    pub(crate) node: Tree<'a>,
     list: [Addend; 256],
-    pub count: usize,
+    pub(crate) count: usize,
     ghost few: { count ≤ 256 },
     ghost counts: { count ≡ length (flatten_addends (tree_at node.words.now)) },
     ghost are: { AddendsAre node.words.now (take count list) (flatten_addends (tree_at node.words.now)) } by { AddendsAre-prop node.words.now (take count list) (flatten_addends (tree_at node.words.now)) },

@@ -11,10 +11,10 @@ use expr::tree::Tree;
 // which one `put_second` writes.
 #[derive(Clone, Copy)]
 pub(crate) struct Candidate<'a> {
-    pub kind: Binary,
-    pub first: Tree<'a>,
-    pub negate: bool,
-    pub second: Tree<'a>,
+    pub(crate) kind: Binary,
+    pub(crate) first: Tree<'a>,
+    pub(crate) negate: bool,
+    pub(crate) second: Tree<'a>,
 }
 
 // The candidate that is asked for, with its tag, or how many are left to pass over before it. Not an `Option`: where all are passed over, what is

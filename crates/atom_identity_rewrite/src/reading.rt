@@ -14,12 +14,12 @@ use width::Width;
 // The roles of addends in tags 4 and 5: the constant, the Or by its operands, and of the others the last that is added and the last that is subtracted.
 #[derive(Clone, Copy, Default)]
 pub(crate) struct Roles<'a> {
-    pub unit: bool,
-    pub or: Option<(Tree<'a>, Tree<'a>)>,
-    pub plus: Option<Tree<'a>>,
-    pub minus: Option<Tree<'a>>,
+    pub(crate) unit: bool,
+    pub(crate) or: Option<(Tree<'a>, Tree<'a>)>,
+    pub(crate) plus: Option<Tree<'a>>,
+    pub(crate) minus: Option<Tree<'a>>,
     // whether any addend is subtracted
-    pub negated: bool,
+    pub(crate) negated: bool,
 }
 
 // ---- tags 4 and 5

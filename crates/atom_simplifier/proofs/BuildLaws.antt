@@ -28,9 +28,9 @@ use Rattle.rewriting.specs.AtomSimplifier.{first_rewrite}
 use Rattle.rewriting.specs.EndLaws.{Ends, done, no_site, leaf_still, ends_left, ends_right, ends_unary}
 use Rattle.rewriting.specs.NodesLaws.{ends_nodes}
 use Rattle.rewriting.specs.ChainLaws.{count_small}
-use Rattle.atom_simplifier.specs.Promises.{loaded, Ready, EndsAt, Loaded, LeftDone, HasLeft, Comes, IsBuilt, RightBuilt}
+use Rattle.atom_simplifier.specs.Promises.{loaded, Settleable, EndsAt, Loaded, LeftDone, HasLeft, Comes, IsBuilt, RightBuilt}
 use Rattle.atom_simplifier.proofs.WalkLaws.{front, front_inside, node_inside, single, node_is, child_leads, pair, left_leads, both_are, right_leads, two_length}
-use Rattle.atom_simplifier.proofs.SettleLaws.{one_tree, one_ready, one_arity, two_tree, two_ready, two_arity, two_right}
+use Rattle.atom_simplifier.proofs.SettleLaws.{one_tree, one_settleable, one_arity, two_tree, two_settleable, two_arity, two_right}
 
 -- ---- the node's own words
 
@@ -139,9 +139,9 @@ module _ (w : ℕ) (ws : List ℕ) (x : Leads ws) (e : arity_of (get_or ws 0 0) 
     unfolding encode
     own_length = omega (arith, tree_room ws x, ap (λ (t : Expr). length (encode t)) is)
 
-    pub child_ready : length ws ≤ 1024 → Ready w work (2 + n)
-    child_ready m =
-        one_ready w node.kind i.comes.tree i.comes.rest work work_is operands (no_site w i.comes.ends) (2 + n) (omega (arith, i.comes.len_is))
+    pub child_settleable : length ws ≤ 1024 → Settleable w work (2 + n)
+    child_settleable m =
+        one_settleable w node.kind i.comes.tree i.comes.rest work work_is operands (no_site w i.comes.ends) (2 + n) (omega (arith, i.comes.len_is))
         (omega (arith, ends_short w (tail 2 ws) (tail 2 first) second read n count i, i.read_is, own_length))
 
     pub child_arity : arity_of (get_or work 0 0) ≡ accepted 1
@@ -300,9 +300,9 @@ module _ (w : ℕ) (ws work : List ℕ) (at : ℕ) (k : Binary) (l : Expr) (h : 
   pub over_fits : at + length (encode (tree_at ws)) ≤ 1024 → Fits w64 (at + n)
   over_fits g = omega (arith, over_short)
 
-  pub over_ready : at + length (encode (tree_at ws)) ≤ 1024 → Ready w over (at + n)
-  over_ready g =
-      two_ready w k l i.comes.tree i.comes.rest over over_is h.operands i.comes.operands h.still (no_site w i.comes.ends) (at + n)
+  pub over_settleable : at + length (encode (tree_at ws)) ≤ 1024 → Settleable w over (at + n)
+  over_settleable g =
+      two_settleable w k l i.comes.tree i.comes.rest over over_is h.operands i.comes.operands h.still (no_site w i.comes.ends) (at + n)
       (omega (arith, h.at_is, i.comes.len_is)) (omega (arith, over_short))
 
   pub over_arity : arity_of (get_or over 0 0) ≡ accepted 2
@@ -382,8 +382,8 @@ two_least n = omega arith
 
 pub ruleset building = (node_inside, own_room, is_loaded, loaded_long, loaded_room, leaf_built, arity_one, arity_two, built_before, node_falls)
 
-pub ruleset building_one = (node_inside, head_long, child_leads, tail_short, child_room, child_ready, child_arity, child_len_fits, child_read_fits, child_count_fits, one_long, one_built, part_falls, two_least)
+pub ruleset building_one = (node_inside, head_long, child_leads, tail_short, child_room, child_settleable, child_arity, child_len_fits, child_read_fits, child_count_fits, one_long, one_built, part_falls, two_least)
 
-pub ruleset building_right = (place_inside, behind_room, place_scaled, over_fits, over_ready, over_arity, over_right, right_count_fits, right_long, right_built, right_falls)
+pub ruleset building_right = (place_inside, behind_room, place_scaled, over_fits, over_settleable, over_arity, over_right, right_count_fits, right_long, right_built, right_falls)
 
 pub ruleset building_two = (node_inside, head_long, left_leads, tail_short, left_room, right_begins, from_inside, from_fits, from_scaled, at_fits, has_left, right_room, right_short, two_read_fits, two_count_fits, two_long, two_built, part_falls, part_right_falls, two_least)

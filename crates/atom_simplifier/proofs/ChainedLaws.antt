@@ -27,7 +27,7 @@ use Rattle.value.specs.ValueLaws.{OneWidth, one_width_sound, one_width_complete}
 use Rattle.rewriting.specs.EndLaws.{Ends, no_site}
 use Rattle.rewriting.specs.NodesLaws.{ends_nodes}
 use Rattle.rewriting.specs.ChainLaws.{ends_listed, ends_count, no_first_site, ends_lent, ends_value, ends_uniform, ends_valid, ends_depth, ends_variables}
-use Rattle.atom_simplifier.specs.declared.chain.Pairs.{Pairs}
+use Rattle.atom_simplifier.specs.declared.pairs.Pairs.{Pairs}
 use Rattle.atom_simplifier.specs.Calls.{with_work, chain_admitted}
 use Rattle.atom_simplifier.specs.Promises.{counted, IsBuilt}
 use Rattle.atom_simplifier.specs.Chained.{Chained, ChainIs, ChainGives}

@@ -63,27 +63,27 @@ module _ (ws part : List ℕ) (at : ℕ) (p : Within ws at part) where
   part_holds half e t x = record { within = subst (Within ws at) x.words p; words = ap length x.words; half = half; even = e }
 
   -- a part of a part
-  pub part_within : (front inner back : List ℕ) → part ≡ front ++ (inner ++ back) → Within ws (at + length front) inner
-  part_within front inner back e = record {
-    front = p.front ++ front;
-    back = back ++ p.back;
+  pub part_within : (prefix inner suffix : List ℕ) → part ≡ prefix ++ (inner ++ suffix) → Within ws (at + length prefix) inner
+  part_within prefix inner suffix e = record {
+    prefix = p.prefix ++ prefix;
+    suffix = suffix ++ p.suffix;
     words =
         p.words
-        ∙ ap (λ (l : List ℕ). p.front ++ (l ++ p.back)) e
-        ∙ (let s : p.front ++ ((front ++ (inner ++ back)) ++ p.back) ≡ (p.front ++ front) ++ (inner ++ (back ++ p.back)) = simp append_assoc in s);
-    place = omega (arith, p.place, length-append p.front front);
+        ∙ ap (λ (l : List ℕ). p.prefix ++ (l ++ p.suffix)) e
+        ∙ (let s : p.prefix ++ ((prefix ++ (inner ++ suffix)) ++ p.suffix) ≡ (p.prefix ++ prefix) ++ (inner ++ (suffix ++ p.suffix)) = simp append_assoc in s);
+    place = omega (arith, p.place, length-append p.prefix prefix);
   }
 
   -- it lies inside the words, and is what is cut out there
   pub within_inside : at + length part ≤ length ws
-  within_inside = omega (arith, ap length p.words, length-append p.front (part ++ p.back), length-append part p.back, p.place)
+  within_inside = omega (arith, ap length p.words, length-append p.prefix (part ++ p.suffix), length-append part p.suffix, p.place)
 
   pub within_part : (n : ℕ) → n ≡ length part → slice.part at (at + n) ws ≡ part
   within_part n e =
       let m : length part ≡ at + n - at = omega arith in
       ap (λ (l : List ℕ). take (at + n - at) (drop at l)) p.words
-      ∙ ap (take (at + n - at)) (drop_at p.front (part ++ p.back) at (sym p.place))
-      ∙ take_at part p.back (at + n - at) m
+      ∙ ap (take (at + n - at)) (drop_at p.prefix (part ++ p.suffix) at (sym p.place))
+      ∙ take_at part p.suffix (at + n - at) m
 
 -- a node's words: its own two, and those of its operands
 module _ (k : Binary) (ws ls rs : List ℕ) (x : Whole ws) (y : Whole ls) (z : Whole rs) (e : some (tree_at ls, tree_at rs) ≡ operands_of k (tree_at ws)) where
@@ -117,7 +117,7 @@ module _ (ws node : List ℕ) (at : ℕ) (p : Within ws at node) (k : ℕ) (ls r
 
 -- the whole of the words
 pub all_within : (ws : List ℕ) → Within ws 0 ws
-all_within ws = record { front = []; back = []; words = sym (append-nil ws); place = refl }
+all_within ws = record { prefix = []; suffix = []; words = sym (append-nil ws); place = refl }
 
 -- the operands of the node itself
 module _ (node : List ℕ) (t : Expr) (x : Exactly node t) (a : arity_of (get_or node 0 0) ≡ accepted 2) (right : ℕ) (q : right ≡ 2 + length (encode (left_of t))) (ls rs : List ℕ) (f : ls ≡ part 2 right node) (g : rs ≡ tail right node) where

@@ -117,7 +117,7 @@ module _ (bs : List ℕ) (x : Whole bs) where
         let behind : 7 ∷ 0 ∷ bs ≡ 7 ∷ 0 ∷ 7 ∷ 0 ∷ (os ++ []) = ap (λ (us : List ℕ). 7 ∷ 0 ∷ us) (words ∙ ap (λ (us : List ℕ). 7 ∷ 0 ∷ us) (sym (append-nil os))) in
         decides_some (7 ∷ 0 ∷ bs) (local.Part 4 (length os)) _ (tree_at os)
         (ap not_rewrite (sym e) ∙ ap (λ (j : Unary). only_if (is_not_kind j) (tree_at os)) f)
-        (part_holds (7 ∷ 0 ∷ bs) os 4 (record { front = 7 ∷ 0 ∷ 7 ∷ 0 ∷ []; back = []; words = behind; place = refl }) 2 refl (tree_at os) y)
+        (part_holds (7 ∷ 0 ∷ bs) os 4 (record { prefix = 7 ∷ 0 ∷ 7 ∷ 0 ∷ []; suffix = []; words = behind; place = refl }) 2 refl (tree_at os) y)
 
   module _ (k : Binary) (ls rs : List ℕ) (y : Whole ls) (e : binary k (tree_at ls) (tree_at rs) ≡ tree_at bs) where
     pub no_dual : (k ≡ And → ⊥) → (k ≡ Or → ⊥) → Decides (7 ∷ 0 ∷ bs) None (not_rewrite (tree_at bs))
@@ -180,7 +180,7 @@ module _ (k : Unary) (cs : List ℕ) (x : Whole cs) where
         let ws : List ℕ = unary_number k ∷ unary_operand k ∷ cs in
         let behind : ws ≡ unary_number k ∷ unary_operand k ∷ (cs ++ []) = ap (λ (us : List ℕ). unary_number k ∷ unary_operand k ∷ us) (sym (append-nil cs)) in
         decides_some ws (local.Part 2 (length cs)) _ (tree_at cs) (shifted w ∙ ap (λ (b : Bool). only_if b (tree_at cs)) (eq-eqb n 0 g))
-        (part_holds ws cs 2 (record { front = unary_number k ∷ unary_operand k ∷ []; back = []; words = behind; place = refl }) 1 refl (tree_at cs) x)
+        (part_holds ws cs 2 (record { prefix = unary_number k ∷ unary_operand k ∷ []; suffix = []; words = behind; place = refl }) 1 refl (tree_at cs) x)
 
 other_unary : (k : Unary) (t : Expr) → (k ≡ Not → ⊥) → ((n : ℕ) → k ≡ Shr n → ⊥) → unary_rewrite k t ≡ none
 unfolding unary_rewrite

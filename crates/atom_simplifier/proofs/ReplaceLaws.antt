@@ -80,10 +80,10 @@ module _ (ws : List ℕ) (len : ℕ) (d : Decision) (r : Replaceable ws len d) w
         first : at ≡ 0 → ⊥
         first z =
             let i = joined.holds.within in
-            let none : length i.front ≤ 0 = omega (arith, i.place) in
-            let f : i.front ≡ [] = drop_of_length-le i.front none in
-            let b = prefix_free (tree_at node) joined.operand [] i.back
-            (append-nil (encode (tree_at node)) ∙ sym r.whole.words ∙ i.words ∙ ap (λ (l : List ℕ). l ++ (encode joined.operand ++ i.back)) f) in
+            let none : length i.prefix ≤ 0 = omega (arith, i.place) in
+            let f : i.prefix ≡ [] = drop_of_length-le i.prefix none in
+            let b = prefix_free (tree_at node) joined.operand [] i.suffix
+            (append-nil (encode (tree_at node)) ∙ sym r.whole.words ∙ i.words ∙ ap (λ (l : List ℕ). l ++ (encode joined.operand ++ i.suffix)) f) in
             omega (arith, in_node.join_least node d len r.writable at n c e, node_length, ap length r.whole.words, ap (λ (t : Expr). length (encode t)) b.0, joined.holds.words)
 
         go : (half : ℕ) → at ≡ 2 * half → 2 ≤ at

@@ -34,7 +34,7 @@ use Rattle.rewriting.specs.ChainLaws.{count_small}
 use Rattle.atom_simplifier.specs.declared.local.Decision.{Decision}
 use Rattle.atom_simplifier.specs.declared.local.Decision.TheVariants as local
 use Rattle.atom_simplifier.specs.declared.local.Decision.TheVariants.{Join}
-use Rattle.atom_simplifier.specs.Promises.{Holds, Joined, Makes, Decides, Writes, Replaceable, Ready, EndsAt}
+use Rattle.atom_simplifier.specs.Promises.{Holds, Joined, Makes, Decides, Writes, Replaceable, Settleable, EndsAt}
 use Rattle.atom_simplifier.proofs.DecideLaws.{not_some, none_decided, some_decided, within_inside}
 
 -- the words xs, laid over words that are those of ws from `reach` on
@@ -66,21 +66,21 @@ first_word (leaf k) vs = refl
 first_word (unary k t) vs = refl
 first_word (binary k l r) vs = refl
 
-module _ (w : ℕ) (ws : List ℕ) (len : ℕ) (r : Ready w ws len) where
+module _ (w : ℕ) (ws : List ℕ) (len : ℕ) (r : Settleable w ws len) where
   own : Front ws (tree_at ws)
   own = starts_front ws r.starts
 
   pub exact : Exactly (part 0 len ws) (tree_at ws)
   exact = front_part ws (tree_at ws) own len r.len_is
 
-  pub ready_inside : len ≤ length ws
-  ready_inside = omega (arith, front_length ws (tree_at ws) own, r.len_is)
+  pub settleable_inside : len ≤ length ws
+  settleable_inside = omega (arith, front_length ws (tree_at ws) own, r.len_is)
 
-  pub ready_whole : Whole (part 0 len ws)
-  ready_whole = exact_whole (part 0 len ws) (tree_at ws) exact
+  pub settleable_whole : Whole (part 0 len ws)
+  settleable_whole = exact_whole (part 0 len ws) (tree_at ws) exact
 
-  pub ready_arity : (n : ℕ) → arity_of (get_or ws 0 0) ≡ accepted n → arity_of (get_or (part 0 len ws) 0 0) ≡ accepted n
-  ready_arity n a = ap arity_of same_word ∙ a
+  pub settleable_arity : (n : ℕ) → arity_of (get_or ws 0 0) ≡ accepted n → arity_of (get_or (part 0 len ws) 0 0) ≡ accepted n
+  settleable_arity n a = ap arity_of same_word ∙ a
     where
       same_word : get_or (part 0 len ws) 0 0 ≡ get_or ws 0 0
       same_word =
@@ -90,13 +90,13 @@ module _ (w : ℕ) (ws : List ℕ) (len : ℕ) (r : Ready w ws len) where
   pub node_tree : tree_at (part 0 len ws) ≡ tree_at ws
   node_tree = exact_tree (part 0 len ws) (tree_at ws) exact
 
-  pub ready_short : length (part 0 len ws) ≤ 1024
-  ready_short =
+  pub settleable_short : length (part 0 len ws) ≤ 1024
+  settleable_short =
       let e : len - 0 ≡ len = omega arith in
-      omega (arith, length-take-le (len - 0) ws (omega (arith, ready_inside)), r.short)
+      omega (arith, length-take-le (len - 0) ws (omega (arith, settleable_inside)), r.short)
 
-  pub ready_right : (right : ℕ) → right ≡ 2 + length (encode (left_of (tree_at ws))) → right ≡ 2 + length (encode (left_of (tree_at (part 0 len ws))))
-  ready_right right e = e ∙ ap (λ (t : Expr). 2 + length (encode (left_of t))) (sym node_tree)
+  pub settleable_right : (right : ℕ) → right ≡ 2 + length (encode (left_of (tree_at ws))) → right ≡ 2 + length (encode (left_of (tree_at (part 0 len ws))))
+  settleable_right right e = e ∙ ap (λ (t : Expr). 2 + length (encode (left_of t))) (sym node_tree)
 
   size : len ≡ 2 * nodes (tree_at ws)
   size = r.len_is ∙ length_encode (tree_at ws)
@@ -161,7 +161,7 @@ module _ (node : List ℕ) (t : Expr) (x : Exactly node t) where
   held_still : (w : ℕ) → NoneBelow w t → (at n : ℕ) (u : Expr) → Holds node at n u → nodes u < nodes t → first_rewrite w u ≡ none
   held_still w b at n u h f =
       let p = h.within in
-      part_still w t u b (even_part t u p.front p.back h.half (sym x.words ∙ p.words) (sym p.place ∙ h.even)) f
+      part_still w t u b (even_part t u p.prefix p.suffix h.half (sym x.words ∙ p.words) (sym p.place ∙ h.even)) f
 
   last_still : (w : ℕ) → NoneBelow w t → (d : Decision) (u : Expr) → Last d → Makes node d u → nodes u < nodes t → first_rewrite w u ≡ none
   unfolding Makes
@@ -194,7 +194,7 @@ module _ (node : List ℕ) (t : Expr) (x : Exactly node t) where
 
 -- ---- the node replaced
 
-module _ (w : ℕ) (ws : List ℕ) (len : ℕ) (r : Ready w ws len) (q : answered.Option Decision) (h : Decides (part 0 len ws) q (local_rewrite w (tree_at (part 0 len ws)))) (d : Decision) (s : q ≡ Some d) where
+module _ (w : ℕ) (ws : List ℕ) (len : ℕ) (r : Settleable w ws len) (q : answered.Option Decision) (h : Decides (part 0 len ws) q (local_rewrite w (tree_at (part 0 len ws)))) (d : Decision) (s : q ≡ Some d) where
   abbrev node : List ℕ
   node = part 0 len ws
 
@@ -216,8 +216,8 @@ module _ (w : ℕ) (ws : List ℕ) (len : ℕ) (r : Ready w ws len) (q : answere
 
     replaceable : Replaceable ws len d
     replaceable = record {
-      inside = ready_inside w ws len r;
-      whole = ready_whole w ws len r;
+      inside = settleable_inside w ws len r;
+      whole = settleable_whole w ws len r;
       writable = record { tree = u; makes = made.2; fits = omega (arith, shorter) };
     }
 
@@ -233,7 +233,7 @@ module _ (w : ℕ) (ws : List ℕ) (len : ℕ) (r : Ready w ws len) (q : answere
       replaced = covered ws ws after (encode u) len n (wr.laid u made.2) n_is (omega (arith, shorter, n_is)) refl
 
       reaches : n + length left_over ≡ len
-      reaches = covers ws ws after (encode u) len n (wr.laid u made.2) n_is (omega (arith, shorter, n_is)) (ready_inside w ws len r)
+      reaches = covers ws ws after (encode u) len n (wr.laid u made.2) n_is (omega (arith, shorter, n_is)) (settleable_inside w ws len r)
 
       operands : T (operands_ok u)
       operands = subst T (sym (local_operands w t u made.1 (is_true (operands_ok t) (starts_front ws r.starts).operands))) tt
@@ -284,7 +284,7 @@ module _ (w : ℕ) (ws : List ℕ) (len : ℕ) (r : Ready w ws len) (q : answere
     two_rests : Last d
     two_rests =
         let m = some_decided node q _ (decided w ws len r q h) d s in
-        two_last node t (exact w ws len r) d m.0 m.2 (ready_arity w ws len r 2 a) z
+        two_last node t (exact w ws len r) d m.0 m.2 (settleable_arity w ws len r 2 a) z
 
     pub two_replaceable : Replaceable ws len d
     two_replaceable = replaceable (last_in_place d two_rests)
@@ -298,7 +298,7 @@ module _ (w : ℕ) (ws : List ℕ) (len : ℕ) (r : Ready w ws len) (q : answere
     one_rests : Last d
     one_rests =
         let m = some_decided node q _ (decided w ws len r q h) d s in
-        one_last node t (exact w ws len r) d m.0 m.2 (ready_arity w ws len r 1 a) z
+        one_last node t (exact w ws len r) d m.0 m.2 (settleable_arity w ws len r 1 a) z
 
     pub one_replaceable : Replaceable ws len d
     one_replaceable = replaceable (last_in_place d one_rests)
@@ -328,8 +328,8 @@ module _ (w : ℕ) (ws : List ℕ) (len : ℕ) (r : Ready w ws len) (q : answere
       again_is : tree_at after ≡ binary is_join.kind is_join.operand (constant c)
       again_is = after_tree joins after n wr ∙ is_join.is
 
-      pub again_ready : Ready w after n
-      again_ready = record {
+      pub again_settleable : Settleable w after n
+      again_settleable = record {
         starts = record { tree = u joins; front = after_front joins after n wr };
         len_is = n_is joins after n wr ∙ ap (λ (v : Expr). length (encode v)) (sym (after_tree joins after n wr));
         short = omega (arith, shorter joins, n_is joins after n wr, r.short);
@@ -372,9 +372,9 @@ module _ (w : ℕ) (k : Unary) (c : Expr) (rest ws : List ℕ) (e : ws ≡ unary
   pub one_tree : tree_at ws ≡ unary k c
   one_tree = front_tree ws (unary k c) one_front
 
-  pub one_ready : first_rewrite w c ≡ none → (n : ℕ) → n ≡ 2 + length (encode c) → n ≤ 1024 → Ready w ws n
+  pub one_settleable : first_rewrite w c ≡ none → (n : ℕ) → n ≡ 2 + length (encode c) → n ≤ 1024 → Settleable w ws n
   unfolding encode
-  one_ready s n f h = record {
+  one_settleable s n f h = record {
     starts = record { tree = unary k c; front = one_front };
     len_is = f ∙ (let g : 2 + length (encode c) ≡ length (encode (unary k c)) = omega arith in g) ∙ ap (λ (v : Expr). length (encode v)) (sym one_tree);
     short = h;
@@ -396,9 +396,9 @@ module _ (w : ℕ) (k : Binary) (l r : Expr) (rest ws : List ℕ) (e : ws ≡ bi
   pub two_tree : tree_at ws ≡ binary k l r
   two_tree = front_tree ws (binary k l r) two_front
 
-  pub two_ready : first_rewrite w l ≡ none → first_rewrite w r ≡ none → (n : ℕ) → n ≡ 2 + length (encode l) + length (encode r) → n ≤ 1024 → Ready w ws n
+  pub two_settleable : first_rewrite w l ≡ none → first_rewrite w r ≡ none → (n : ℕ) → n ≡ 2 + length (encode l) + length (encode r) → n ≤ 1024 → Settleable w ws n
   unfolding encode
-  two_ready s t n f h = record {
+  two_settleable s t n f h = record {
     starts = record { tree = binary k l r; front = two_front };
     len_is = f ∙ omega (arith, length-append (encode l) (encode r)) ∙ ap (λ (v : Expr). length (encode v)) (sym two_tree);
     short = h;
@@ -412,6 +412,6 @@ module _ (w : ℕ) (k : Binary) (l r : Expr) (rest ws : List ℕ) (e : ws ≡ bi
   two_right n f = f ∙ ap (λ (v : Expr). 2 + length (encode (left_of v))) (sym two_tree)
 
 -- the node's own words, as a tree
-pub ruleset ready_tree = (ready_inside, ready_whole, ready_arity, ready_right, ready_short)
+pub ruleset settleable_tree = (settleable_inside, settleable_whole, settleable_arity, settleable_right, settleable_short)
 
-pub ruleset rewriting_two = (not_some, stays, two_replaceable, two_settled, join_replaceable, again_ready, again_arity, again_right, again_falls, again_fits, join_settled)
+pub ruleset rewriting_two = (not_some, stays, two_replaceable, two_settled, join_replaceable, again_settleable, again_arity, again_right, again_falls, again_fits, join_settled)

@@ -36,9 +36,9 @@ use Rattle.std.specs.Prelude.{Some}
 use Rattle.std.specs.Prelude as answered
 use Rattle.atom_simplifier.specs.declared.local.Decision.{Decision}
 use Rattle.atom_simplifier.specs.declared.local.Decision.TheVariants.{DeMorgan}
-use Rattle.atom_simplifier.specs.Promises.{dual_number, Turns, Makes, Decides, Ready, Apart, Turnable, Turned, Half, HalfTurned, HalfEnds, EndsAt}
+use Rattle.atom_simplifier.specs.Promises.{dual_number, Turns, Makes, Decides, Settleable, Apart, Turnable, Turned, Half, HalfTurned, HalfEnds, EndsAt}
 use Rattle.atom_simplifier.proofs.DecideLaws.{not_some, some_decided}
-use Rattle.atom_simplifier.proofs.SettleLaws.{first_word, ends_long, ready_inside, ready_whole, ready_short, node_tree, exact, stays, one_replaceable, one_settled, covered, covers, one_tree, one_ready, one_arity, two_ready, two_tree, two_arity, two_right}
+use Rattle.atom_simplifier.proofs.SettleLaws.{first_word, ends_long, settleable_inside, settleable_whole, settleable_short, node_tree, exact, stays, one_replaceable, one_settled, covered, covers, one_tree, one_settleable, one_arity, two_settleable, two_tree, two_arity, two_right}
 
 -- ---- `rewrite_one`
 
@@ -65,7 +65,7 @@ turnable w ws right len (turned_over (over {k} {j} {a} {b} d n)) f x m s e h =
       short = h;
     }
 
-module _ (w : ℕ) (ws : List ℕ) (len : ℕ) (r : Ready w ws len) (q : answered.Option Decision) (h : Decides (part 0 len ws) q (local_rewrite w (tree_at (part 0 len ws)))) (d : Decision) (s : q ≡ Some d) where
+module _ (w : ℕ) (ws : List ℕ) (len : ℕ) (r : Settleable w ws len) (q : answered.Option Decision) (h : Decides (part 0 len ws) q (local_rewrite w (tree_at (part 0 len ws)))) (d : Decision) (s : q ≡ Some d) where
   pub one_turnable : (right : ℕ) → d ≡ DeMorgan right → Turnable w ws right len
   unfolding Makes
   one_turnable right e =
@@ -197,8 +197,8 @@ module _ (w : ℕ) (ws : List ℕ) (from len : ℕ) (p : Apart w ws from len) wh
       unfolding operands_ok operand_ok
       put_operands = at_operand.operands
 
-      pub not_ready : Ready w (tail (from - 2) put) (len + 2)
-      not_ready = one_ready w Not operand at_operand.rest (tail (from - 2) put) (put_tail_is ∙ first_is) put_operands p.still (len + 2) (omega (arith, p.len_is)) (omega (arith, p.short, free_words))
+      pub not_settleable : Settleable w (tail (from - 2) put) (len + 2)
+      not_settleable = one_settleable w Not operand at_operand.rest (tail (from - 2) put) (put_tail_is ∙ first_is) put_operands p.still (len + 2) (omega (arith, p.len_is)) (omega (arith, p.short, free_words))
 
       pub not_arity : arity_of (get_or (tail (from - 2) put) 0 0) ≡ accepted 1
       not_arity = one_arity w Not operand at_operand.rest (tail (from - 2) put) (put_tail_is ∙ first_is) put_operands
@@ -548,9 +548,9 @@ module _ (w : ℕ) (ws : List ℕ) (at right len : ℕ) (k : Binary) (l o : Expr
     pub both_fits : Fits w64 (at + n)
     both_fits = omega (arith, both_reach, h.short)
 
-    pub both_ready : Ready w both (at + n)
-    both_ready =
-        two_ready w k l g.tree (g.between ++ h.rest) both both_is h.left_operands g.operands h.left_still (no_site w o_ends) (at + n)
+    pub both_settleable : Settleable w both (at + n)
+    both_settleable =
+        two_settleable w k l g.tree (g.between ++ h.rest) both both_is h.left_operands g.operands h.left_still (no_site w o_ends) (at + n)
         (omega (arith, h.at_is, g.len_is)) (omega (arith, both_reach, h.short))
 
     pub both_arity : arity_of (get_or both 0 0) ≡ accepted 2
@@ -623,10 +623,10 @@ second_call_falls right len m e = omega arith
 
 pub ruleset rewriting_one = (not_some, stays, one_replaceable, one_settled, one_turnable, turn_falls)
 
-pub ruleset settling_one = (ready_inside, ready_whole, ready_short, rewrite_falls)
+pub ruleset settling_one = (settleable_inside, settleable_whole, settleable_short, rewrite_falls)
 
-pub ruleset settling_operand = (operand_inside, operand_long, operand_fits, inner_inside, not_not_done, free_words, not_scaled, not_fits, not_inside, not_room, not_ready, not_arity, put_inside, end_inside, operand_done, operand_kept, not_falls)
+pub ruleset settling_operand = (operand_inside, operand_long, operand_fits, inner_inside, not_not_done, free_words, not_scaled, not_fits, not_inside, not_room, not_settleable, not_arity, put_inside, end_inside, operand_done, operand_kept, not_falls)
 
 pub ruleset turning = (turn_inside, turn_place, turn_right, turned_inside, first_apart, first_falls, half_falls, second_place, second_fits, half_turned, turn_count, turn_done, turn_long)
 
-pub ruleset settling_second = (at_right, right_len, at_inside, at_scaled, second_apart, both_fits, both_ready, both_arity, both_right, second_count, second_long, second_done, second_call_falls)
+pub ruleset settling_second = (at_right, right_len, at_inside, at_scaled, second_apart, both_fits, both_settleable, both_arity, both_right, second_count, second_long, second_done, second_call_falls)

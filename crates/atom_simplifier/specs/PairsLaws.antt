@@ -4,7 +4,7 @@ use Rattle.std.proofs.Common.{arith}
 use Rattle.std.proofs.Math.Path.{ap}
 use Rattle.expr.specs.Expr.{Expr, nodes}
 use Rattle.rewriting.specs.MeasureLaws.{and_ors_nodes, D_small}
-use Rattle.atom_simplifier.specs.declared.chain.Pairs.{Pairs}
+use Rattle.atom_simplifier.specs.declared.pairs.Pairs.{Pairs}
 use Rattle.atom_simplifier.specs.Promises.{counted, Few}
 
 pub few_pairs : (p : Pairs) (t : Expr) → nodes t ≤ 512 → p ≡ counted t → Few p

@@ -28,7 +28,7 @@ use Rattle.atom_simplifier.specs.declared.local.Decision.{Decision}
 use Rattle.atom_simplifier.specs.declared.local.Decision.TheVariants.{Part, Constant, Join, DeMorgan}
 use Rattle.atom_simplifier.specs.declared.operands.Placed.{Placed}
 use Rattle.atom_simplifier.specs.declared.search.Site.{Site}
-use Rattle.atom_simplifier.specs.declared.chain.Pairs.{Pairs}
+use Rattle.atom_simplifier.specs.declared.pairs.Pairs.{Pairs}
 
 -- at width w the tree is the Constant c
 unfoldable pub is_constant : ℕ → Expr → ℕ → Bool
@@ -86,10 +86,10 @@ arm_rewrite w op t u = unless_same w (binary (kind_of op) t u) (arms w op t u)
 
 -- the part stands in the words, from place `at` on
 pub record Within (ws : List ℕ) (at : ℕ) (part : List ℕ) : Type 0 where
-  pub front : List ℕ
-  pub back : List ℕ
-  pub words : ws ≡ front ++ (part ++ back)
-  pub place : at ≡ length front
+  pub prefix : List ℕ
+  pub suffix : List ℕ
+  pub words : ws ≡ prefix ++ (part ++ suffix)
+  pub place : at ≡ length prefix
 
 -- the words of the tree stand in the words at that place and of that length; the place is even, as every node's is
 pub record Holds (ws : List ℕ) (at len : ℕ) (t : Expr) : Type 0 where
@@ -220,7 +220,7 @@ unfoldable pub loaded : ℕ → ℕ → ℕ → List ℕ
 loaded w kind operand = kind ∷ operand ∷ []
 
 -- the words begin with those of the tree, `len` of them and at most 1,024, and no node below its root is a site
-pub record Ready (w : ℕ) (ws : List ℕ) (len : ℕ) : Type 0 where
+pub record Settleable (w : ℕ) (ws : List ℕ) (len : ℕ) : Type 0 where
   pub starts : Starts ws
   pub len_is : len ≡ length (encode (tree_at ws))
   pub short : len ≤ 1024

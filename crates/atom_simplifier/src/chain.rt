@@ -8,19 +8,16 @@ ghost use Rattle.expr.specs.Expr.{encode};
 ghost use Rattle.expr.specs.Parts.{tail, part, Laid};
 ghost use Rattle.expr.specs.Front.{tree_at, left_of};
 ghost use Rattle.rewriting.specs.AtomSimplifier.{not, local_rewrite};
-ghost use Rattle.rewriting.specs.Measures.{and_or, pairs};
 ghost use Rattle.atom_simplifier.specs.Calls.{chain_admitted};
 ghost use Rattle.expr.specs.Answers.{outcome};
 ghost use Rattle.atom_simplifier.specs.Answers.{end_numbers};
-ghost use Rattle.atom_simplifier.specs.PairsLaws.{few_pairs};
 ghost use Rattle.atom_simplifier.specs.Chained.{ChainGives};
-ghost use Rattle.atom_simplifier.specs.Promises.{Decides, counted, Few, loaded, Ready, Apart, Turnable, Turned, HalfTurned, HalfEnds, EndsAt, Loaded, HasLeft, IsBuilt, RightBuilt, HasArity, HasRoom};
+ghost use Rattle.atom_simplifier.specs.Promises.{Decides, loaded, Settleable, Apart, Turnable, Turned, HalfTurned, HalfEnds, EndsAt, Loaded, HasLeft, IsBuilt, RightBuilt, HasArity, HasRoom};
 
 use crate::local::Decision;
 use crate::operands::Operands;
+use crate::pairs::Counting;
 use crate::{local, write};
-use expr::fold::Fold;
-use expr::kind::{Binary, Leaf, Unary};
 use expr::refusal::Refusal;
 use expr::tree::{Tree, Walk};
 use expr::{Arity, kind};
@@ -31,13 +28,6 @@ use width::Width;
 pub struct ChainEnd {
     pub nodes: usize,
     pub rewrites: usize,
-}
-
-// And and Or nodes of a tree, and its pairs of one of them and a Not above it, which is document 01's D.
-#[derive(Clone, Copy)]
-pub(crate) struct Pairs {
-    and_ors: usize,
-    pairs: usize,
 }
 
 // How many words the tree has that a node has come to, and how many rewrites it took.
@@ -56,68 +46,11 @@ pub(crate) struct Built {
     count: usize,
 }
 
-// The pairs of a node of the kind with the And and Or nodes below it.
-fn pairs_below(kind: Unary, and_ors: usize) -> usize
-    ensures { result ≡ pairs kind and_ors }
-{
-    match kind {
-        Unary::Not => and_ors,
-        _ => 0,
-    }
-}
-
-// One for an And or Or.
-fn and_or(kind: Binary) -> usize
-    ensures { result ≡ and_or kind }
-{
-    match kind {
-        Binary::And | Binary::Or => 1,
-        _ => 0,
-    }
-}
-
-// The walk that counts a tree's pairs.
-struct Counting;
-
-impl Fold for Counting {
-    type Found = Pairs;
-
-    ghost gives = { λ _ found t. found ≡ counted t };
-
-    ghost fits = { λ _ found. Few found };
-
-    ghost within = { λ _ found t few given. few_pairs found t few given };
-
-    #[tactic(auto, unfolding(crate::specs::Promises::counted, rewriting::specs::Measures::and_ors_of, rewriting::specs::Measures::D))]
-    fn leaf(&self, _kind: Leaf) -> Pairs {
-        Pairs {
-            and_ors: 0,
-            pairs: 0,
-        }
-    }
-
-    #[tactic(auto, unfolding(crate::specs::Promises::counted, rewriting::specs::Measures::and_ors_of, rewriting::specs::Measures::D))]
-    fn unary(&self, kind: Unary, child: Pairs) -> Pairs {
-        Pairs {
-            and_ors: child.and_ors,
-            pairs: pairs_below(kind, child.and_ors) + child.pairs,
-        }
-    }
-
-    #[tactic(auto, unfolding(crate::specs::Promises::counted, rewriting::specs::Measures::and_ors_of, rewriting::specs::Measures::D))]
-    fn binary(&self, kind: Binary, left: Pairs, right: Pairs) -> Pairs {
-        Pairs {
-            and_ors: and_or(kind) + left.and_ors + right.and_ors,
-            pairs: left.pairs + right.pairs,
-        }
-    }
-}
-
 // What a node over two children without a site becomes; the right one is at `right`. It takes the words, as both callers have no `Operands`: the
 // words are theirs to write over.
-#[tactic(auto, using(crate::proofs::SettleLaws::ready_tree))]
+#[tactic(auto, using(crate::proofs::SettleLaws::settleable_tree))]
 fn two_rewrite(node: &[u64], right: usize, len: usize, width: Width) -> Option<Decision>
-    requires { Ready width.bits node.now len × HasArity node.now 2 × (right ≡ 2 + length (encode (left_of (tree_at node.now)))) }
+    requires { Settleable width.bits node.now len × HasArity node.now 2 × (right ≡ 2 + length (encode (left_of (tree_at node.now)))) }
     ensures { Decides (part 0 len node.now) result (local_rewrite width.bits (tree_at (part 0 len node.now))) }
 {
     let node = Tree {
@@ -128,7 +61,7 @@ fn two_rewrite(node: &[u64], right: usize, len: usize, width: Width) -> Option<D
 
 // A node over two children without a site, with what was decided about it. A fold may make a node whose root has a site again.
 fn rewrite_two(node: &mut [u64], decided: Option<Decision>, len: usize, width: Width) -> Settled
-    requires { Ready width.bits node.old len × HasArity node.old 2 × Decides (part 0 len node.old) decided (local_rewrite width.bits (tree_at (part 0 len node.old))) }
+    requires { Settleable width.bits node.old len × HasArity node.old 2 × Decides (part 0 len node.old) decided (local_rewrite width.bits (tree_at (part 0 len node.old))) }
     ensures { EndsAt width.bits (tree_at node.old) len node.old node.new result.len result.count }
 {
     let Some(rewrite) = decided else {
@@ -153,7 +86,7 @@ fn rewrite_two(node: &mut [u64], decided: Option<Decision>, len: usize, width: W
 
 // A node over two children without a site; the right one is at `right`.
 fn settle_two(node: &mut [u64], right: usize, len: usize, width: Width) -> Settled
-    requires { Ready width.bits node.old len × HasArity node.old 2 × (right ≡ 2 + length (encode (left_of (tree_at node.old)))) }
+    requires { Settleable width.bits node.old len × HasArity node.old 2 × (right ≡ 2 + length (encode (left_of (tree_at node.old)))) }
     ensures { EndsAt width.bits (tree_at node.old) len node.old node.new result.len result.count }
 {
     let decided = two_rewrite(node, right, len, width);
@@ -202,7 +135,7 @@ fn settle_de_morgan(node: &mut [u64], right: usize, len: usize, width: Width) ->
 // A node over one child without a site, with what was decided about it.
 #[cycle(rewrite_one_settle_de_morgan_settle_one_settle_operand_settle_second)]
 fn rewrite_one(node: &mut [u64], decided: Option<Decision>, len: usize, width: Width) -> Settled
-    requires { Ready width.bits node.old len × HasArity node.old 1 × Decides (part 0 len node.old) decided (local_rewrite width.bits (tree_at (part 0 len node.old))) }
+    requires { Settleable width.bits node.old len × HasArity node.old 1 × Decides (part 0 len node.old) decided (local_rewrite width.bits (tree_at (part 0 len node.old))) }
     ensures { EndsAt width.bits (tree_at node.old) len node.old node.new result.len result.count }
 {
     let Some(rewrite) = decided else {
@@ -220,7 +153,7 @@ fn rewrite_one(node: &mut [u64], decided: Option<Decision>, len: usize, width: W
 // A node over one child without a site.
 #[cycle(rewrite_one_settle_de_morgan_settle_one_settle_operand_settle_second)]
 fn settle_one(node: &mut [u64], len: usize, width: Width) -> Settled
-    requires { Ready width.bits node.old len × HasArity node.old 1 }
+    requires { Settleable width.bits node.old len × HasArity node.old 1 }
     ensures { EndsAt width.bits (tree_at node.old) len node.old node.new result.len result.count }
 {
     let tree = Tree {

@@ -16,6 +16,7 @@ pub mod chain;
 mod fold;
 mod local;
 mod operands;
+mod pairs;
 mod search;
 mod write;
 

@@ -1,3 +1,3 @@
 pub mod NumberLaws
 pub mod OperandLaws
-pub mod TurnLaws
+pub mod LoopLaws

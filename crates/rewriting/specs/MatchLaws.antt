@@ -126,9 +126,9 @@ swap_value w Concat x y = refl
 is : {t u : Expr} → t ≡ u → t ~ u
 is {t} e = subst (λ (u : Expr). t ~ u) e (record { cut = as_it_is; same_value = λ w σ. refl })
 
-turned : {t l r : Expr} {k : Binary} → t ≡ binary k l r → t ~ binary k r l
+by_swap : {t l r : Expr} {k : Binary} → t ≡ binary k l r → t ~ binary k r l
 unfolding value
-turned {t} {l} {r} {k} e =
+by_swap {t} {l} {r} {k} e =
     subst (λ (u : Expr). u ~ binary k r l) (sym e) (record { cut = swapped; same_value = λ w σ. swap_value w k (value w σ l) (value w σ r) })
 
 under : {t l r s : Expr} {k : Binary} → t ~ binary k l r → r ~ s → t ~ binary k l s
@@ -149,14 +149,14 @@ unfolding xor_absorb_one
 absorbs_one {t} x a h =
     every_and_then_on (Absorbs t) _ (operands_of And a) _ (operands And a) (λ (p, q) e.
     if_case (Every (Absorbs t)) (expr_eq p x) (λ g. absorbs (under h (is (e ∙ ap (λ (s : Expr). binary And s q) (expr_eq→eq p x g)))))
-    (if_case (Every (Absorbs t)) (expr_eq q x) (λ g. absorbs (under h (turned (e ∙ ap (binary And p) (expr_eq→eq q x g)))))
+    (if_case (Every (Absorbs t)) (expr_eq q x) (λ g. absorbs (under h (by_swap (e ∙ ap (binary And p) (expr_eq→eq q x g)))))
     tt))
 
 pub found_1 : (t : Expr) → Every (Absorbs t) (match_xor_and_absorb t)
 unfolding match_xor_and_absorb
 found_1 t =
     every_and_then_on (Absorbs t) _ (operands_of Xor t) _ (operands Xor t) (λ (l, r) e.
-    every_or_else (Absorbs t) (xor_absorb_one l r) (xor_absorb_one r l) (absorbs_one l r (is e)) (absorbs_one r l (turned e)))
+    every_or_else (Absorbs t) (xor_absorb_one l r) (xor_absorb_one r l) (absorbs_one l r (is e)) (absorbs_one r l (by_swap e)))
 
 -- ---- tags 2 and 3
 
@@ -165,7 +165,7 @@ unfolding match_binary_add_with_neg
 add_neg t =
     every_and_then_on _ _ (operands_of Add t) _ (operands Add t) (λ (l, r) e.
     every_or_else _ (map (λ y. (r, y)) (operand_of_neg l)) (map (λ y. (l, y)) (operand_of_neg r))
-    (every_map_on _ _ (operand_of_neg l) (operand_neg l) (λ y f. turned (e ∙ ap (λ (s : Expr). binary Add s r) f)))
+    (every_map_on _ _ (operand_of_neg l) (operand_neg l) (λ y f. by_swap (e ∙ ap (λ (s : Expr). binary Add s r) f)))
     (every_map_on _ _ (operand_of_neg r) (operand_neg r) (λ y f. is (e ∙ ap (binary Add l) f))))
 
 -- `(a | b) - (a & b)` and `a ^ b`, or `(!a | x) - !a` and `a & x`; of the two operands only the first is an Or
@@ -178,7 +178,7 @@ unfolding same_unordered_pair
 either_order a b x y =
     either_pair (expr_eq a x) (expr_eq b y) (expr_eq a y) (expr_eq b x)
     (λ p q. is (sym (ap₂ (binary And) (expr_eq→eq a x p) (expr_eq→eq b y q))))
-    (λ p q. turned (sym (ap₂ (binary And) (expr_eq→eq b x q) (expr_eq→eq a y p))))
+    (λ p q. by_swap (sym (ap₂ (binary And) (expr_eq→eq b x q) (expr_eq→eq a y p))))
 
 xor_minus : (o n : Expr) → Every (Minus o n) (xor_of_or_and o n)
 unfolding xor_of_or_and
@@ -193,7 +193,7 @@ unfolding beside_not_of
 beside_not a l r =
     let E = Every (λ x. binary Or l r ~ binary Or (not a) x) in
     if_case E (is_not_of l a) (λ h. is (ap (λ (s : Expr). binary Or s r) (not_of→eq l a h)))
-    (if_case E (is_not_of r a) (λ h. turned (ap (binary Or l) (not_of→eq r a h)))
+    (if_case E (is_not_of r a) (λ h. by_swap (ap (binary Or l) (not_of→eq r a h)))
     tt)
 
 and_minus : (o n : Expr) → Every (Minus o n) (and_of_or_not o n)
@@ -280,7 +280,7 @@ or_in_product_lem factor t =
     (if_case (Every P) (factor l)
     (λ h. every_on _ P (operands_of Or r) (λ s f. product h (is (e ∙ ap (binary Mul l) f))) (operands Or r)) tt)
     (if_case (Every P) (factor r)
-    (λ h. every_on _ P (operands_of Or l) (λ s f. product h (turned (e ∙ ap (λ (u : Expr). binary Mul u r) f))) (operands Or l)) tt))
+    (λ h. every_on _ P (operands_of Or l) (λ s f. product h (by_swap (e ∙ ap (λ (u : Expr). binary Mul u r) f))) (operands Or l)) tt))
 
 product_on : {factor : Expr → Bool} {t l r a b : Expr} → Product factor t l r → binary Or l r ~ binary Or a b → Product factor t a b
 product_on (product h g) e = product h (under g e)
@@ -289,7 +289,7 @@ with_not : (l r a b : Expr) → T ((expr_eq l a && is_not_of r b) || (expr_eq r 
 with_not l r a b =
     either_pair (expr_eq l a) (is_not_of r b) (expr_eq r a) (is_not_of l b)
     (λ p q. is (ap₂ (binary Or) (expr_eq→eq l a p) (not_of→eq r b q)))
-    (λ p q. turned (ap₂ (binary Or) (not_of→eq l b q) (expr_eq→eq r a p)))
+    (λ p q. by_swap (ap₂ (binary Or) (not_of→eq l b q) (expr_eq→eq r a p)))
 
 -- ---- tags 4 and 5
 

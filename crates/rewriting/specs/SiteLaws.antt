@@ -95,15 +95,15 @@ module _ (w : ℕ) where
 
 -- ---- the words
 
--- a part of the words stands between a front and a back: behind a node's own two words, and in the left child's or the right child's
+-- a part of the words stands between a prefix and a suffix: behind a node's own two words, and in the left child's or the right child's
 behind : (k o : ℕ) {xs ys : List ℕ} → xs ≡ ys → k ∷ o ∷ xs ≡ k ∷ o ∷ ys
 behind k o e = ap (λ (l : List ℕ). k ∷ o ∷ l) e
 
-on_left : {xs : List ℕ} (front part back rest : List ℕ) → xs ≡ front ++ (part ++ back) → xs ++ rest ≡ front ++ (part ++ (back ++ rest))
-on_left front part back rest e = ap (λ (l : List ℕ). l ++ rest) e ∙ simp append_assoc
+on_left : {xs : List ℕ} (prefix part suffix rest : List ℕ) → xs ≡ prefix ++ (part ++ suffix) → xs ++ rest ≡ prefix ++ (part ++ (suffix ++ rest))
+on_left prefix part suffix rest e = ap (λ (l : List ℕ). l ++ rest) e ∙ simp append_assoc
 
-on_right : {xs : List ℕ} (front part back rest : List ℕ) → xs ≡ front ++ (part ++ back) → rest ++ xs ≡ (rest ++ front) ++ (part ++ back)
-on_right front part back rest e = ap (λ (l : List ℕ). rest ++ l) e ∙ simp append_assoc
+on_right : {xs : List ℕ} (prefix part suffix rest : List ℕ) → xs ≡ prefix ++ (part ++ suffix) → rest ++ xs ≡ (rest ++ prefix) ++ (part ++ suffix)
+on_right prefix part suffix rest e = ap (λ (l : List ℕ). rest ++ l) e ∙ simp append_assoc
 
 module _ (w : ℕ) where
   -- s is a site of t: its path leads to a subtree of t, of which the replacement is the local rewrite; the path has at least two steps less
@@ -117,10 +117,10 @@ module _ (w : ℕ) where
     pub is_whole : after t s ≡ some whole
     pub short : length s.path + 1 < depth t
     pub few : nodes s.replacement ≤ nodes t + 1
-    pub front : List ℕ
-    pub back : List ℕ
-    pub was : encode t ≡ front ++ (encode subtree ++ back)
-    pub is : encode whole ≡ front ++ (encode s.replacement ++ back)
+    pub prefix : List ℕ
+    pub suffix : List ℕ
+    pub was : encode t ≡ prefix ++ (encode subtree ++ suffix)
+    pub is : encode whole ≡ prefix ++ (encode s.replacement ++ suffix)
 
   -- a leaf has no local rewrite
   two_levels : (t u : Expr) → local_rewrite w t ≡ some u → 1 < depth t
@@ -140,8 +140,8 @@ module _ (w : ℕ) where
       is_whole = refl;
       short = two_levels t u e;
       few = local_nodes w t u e;
-      front = [];
-      back = [];
+      prefix = [];
+      suffix = [];
       was = sym (append-nil (encode t));
       is = sym (append-nil (encode u));
     };
@@ -153,8 +153,8 @@ module _ (w : ℕ) where
       is_whole = ap (map (unary k)) i.is_whole;
       short = omega (arith, i.short);
       few = omega (arith, i.few);
-      front = unary_number k ∷ unary_operand k ∷ i.front;
-      back = i.back;
+      prefix = unary_number k ∷ unary_operand k ∷ i.prefix;
+      suffix = i.suffix;
       was = behind (unary_number k) (unary_operand k) i.was;
       is = behind (unary_number k) (unary_operand k) i.is;
     };
@@ -166,10 +166,10 @@ module _ (w : ℕ) where
       is_whole = ap (map (λ v. binary k v r)) i.is_whole;
       short = omega (arith, i.short);
       few = omega (arith, i.few);
-      front = binary_number k ∷ 0 ∷ i.front;
-      back = i.back ++ encode r;
-      was = behind (binary_number k) 0 (on_left i.front (encode i.subtree) i.back (encode r) i.was);
-      is = behind (binary_number k) 0 (on_left i.front (encode s.replacement) i.back (encode r) i.is);
+      prefix = binary_number k ∷ 0 ∷ i.prefix;
+      suffix = i.suffix ++ encode r;
+      was = behind (binary_number k) 0 (on_left i.prefix (encode i.subtree) i.suffix (encode r) i.was);
+      is = behind (binary_number k) 0 (on_left i.prefix (encode s.replacement) i.suffix (encode r) i.is);
     };
     from_right_lem = λ k l r s u i. record {
       subtree = i.subtree;
@@ -179,10 +179,10 @@ module _ (w : ℕ) where
       is_whole = ap (map (binary k l)) i.is_whole;
       short = omega (arith, i.short);
       few = omega (arith, i.few);
-      front = binary_number k ∷ 0 ∷ (encode l ++ i.front);
-      back = i.back;
-      was = behind (binary_number k) 0 (on_right i.front (encode i.subtree) i.back (encode l) i.was);
-      is = behind (binary_number k) 0 (on_right i.front (encode s.replacement) i.back (encode l) i.is);
+      prefix = binary_number k ∷ 0 ∷ (encode l ++ i.prefix);
+      suffix = i.suffix;
+      was = behind (binary_number k) 0 (on_right i.prefix (encode i.subtree) i.suffix (encode l) i.was);
+      is = behind (binary_number k) 0 (on_right i.prefix (encode s.replacement) i.suffix (encode l) i.is);
     };
   }
 

@@ -1,6 +1,6 @@
 -- `hexadecimal::put_nodes` meets its contract. Assumes nothing.
 use borrow.Author.Rules.{rules}
-use Rattle.hexadecimal.proofs.TurnLaws.{writing}
+use Rattle.hexadecimal.proofs.LoopLaws.{writing}
 use Rattle.hexadecimal.proofs.put_nodes.Goals as goal
 
 ruleset laws = (rules, writing)

@@ -1,5 +1,5 @@
 -- `hexadecimal::put_nodes` meets its contract. Assumes nothing.
-use Rattle.hexadecimal.proofs.TurnLaws.{Writing}
+use Rattle.hexadecimal.proofs.LoopLaws.{Writing}
 use Rattle.hexadecimal.proofs.put_nodes.Given as goal
 
 abbrev pub invariant-loop-i : goal.invariant-loop-i

@@ -1,6 +1,6 @@
 -- `hexadecimal::read_node` meets its contract. Assumes nothing.
 use borrow.Author.Rules.{rules}
-use Rattle.hexadecimal.proofs.TurnLaws.{node_good, node_read}
+use Rattle.hexadecimal.proofs.LoopLaws.{node_good, node_read}
 use Rattle.hexadecimal.proofs.read_node.Goals as goal
 
 ruleset laws = (rules, node_good, node_read)

@@ -1,7 +1,7 @@
 -- `hexadecimal::read_nodes` meets its contract. Assumes nothing.
 use Rattle.std.proofs.Common.{arith}
 use borrow.Author.Rules.{rules}
-use Rattle.hexadecimal.proofs.TurnLaws.{filling, one_filled}
+use Rattle.hexadecimal.proofs.LoopLaws.{filling, one_filled}
 use Rattle.hexadecimal.proofs.read_nodes.Goals as goal
 
 ruleset laws = (rules, filling)

@@ -1,5 +1,5 @@
 -- `hexadecimal::read_nodes` meets its contract. Assumes nothing.
-use Rattle.hexadecimal.proofs.TurnLaws.{Filling}
+use Rattle.hexadecimal.proofs.LoopLaws.{Filling}
 use Rattle.hexadecimal.proofs.read_nodes.Given as goal
 
 abbrev pub invariant-loop-i : goal.invariant-loop-i
