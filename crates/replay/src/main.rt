@@ -1,10 +1,6 @@
-// Answers the requests on standard input that no other program answers.
+// Its list has the requests that no other program's has; `rt ci` compares one list with one program.
 #![tactic(auto)]
 
-mod answer;
-mod arithmetic;
-mod lists;
-
 fn main(rt: HostRuntime) {
-    requests::replay::replay::<lists::Lists, _, _>(&rt, &mut rt.stdin());
+    requests::replay(&rt, &mut rt.stdin());
 }

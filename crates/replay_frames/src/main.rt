@@ -1,13 +1,6 @@
-// Answers the requests to `hexadecimal`, `lines` and `frame`, and to the calls of `expr` and `width` that frames share with candidates, on standard
-// input.
+// Its list has the requests for digits, lines and frames; `rt ci` compares one list with one program.
 #![tactic(auto)]
 
-mod answer;
-mod chunks;
-mod digits;
-mod frames;
-mod trees;
-
 fn main(rt: HostRuntime) {
-    requests::replay::replay::<answer::Frames, _, _>(&rt, &mut rt.stdin());
+    requests::replay(&rt, &mut rt.stdin());
 }

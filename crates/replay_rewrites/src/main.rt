@@ -1,9 +1,6 @@
-// Answers the requests to `atom_simplifier` on standard input.
+// Its list has the requests for one rewrite; `rt ci` compares one list with one program.
 #![tactic(auto)]
 
-mod answer;
-mod calls;
-
 fn main(rt: HostRuntime) {
-    requests::replay::replay::<answer::Rewrites, _, _>(&rt, &mut rt.stdin());
+    requests::replay(&rt, &mut rt.stdin());
 }

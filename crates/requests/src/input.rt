@@ -5,7 +5,7 @@ ghost use Rattle.std.specs.Io.KnownBytes.{Consumes};
 use std::io::Read;
 
 // Reads until `buf` is full, the input ends or a read fails, and answers how many bytes it put at the front of `buf`.
-pub fn read_full<R: Read>(reader: &mut R, buf: &mut [u8]) -> usize
+pub(crate) fn read_full<R: Read>(reader: &mut R, buf: &mut [u8]) -> usize
     ensures fits { result ≤ length buf.new }
     ensures bytes { Consumes (R.remaining reader.old) (R.remaining reader.new) (take result buf.new) }
 {

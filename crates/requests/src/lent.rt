@@ -1,12 +1,12 @@
 // The places that a call is lent: they hold marks before the call, so that one which it writes without need shows.
 ghost use Rattle.std.specs.Prelude.{◌≡◌, ◌*◌, min, length, ℕ, IfSome};
-ghost use Rattle.requests.specs.Lent.{word_mark, byte_mark, Marked};
+ghost use Rattle.requests.specs.Promises.{word_mark, byte_mark, Marked};
 
 use crate::output::{Output, Refused};
 use expr::refusal::Refusal;
 
 // What a lent place holds.
-pub trait Place: Copy + PartialEq + Into<u64> {
+pub(crate) trait Place: Copy + PartialEq + Into<u64> {
     ghost mark_at: { ℕ → Self };
 
     // The mark of a place.
@@ -33,7 +33,7 @@ impl Place for u8 {
 }
 
 // Puts its mark into each place.
-pub fn mark_places<T: Place>(places: &mut [T])
+pub(crate) fn mark_places<T: Place>(places: &mut [T])
     ensures { Marked T.mark_at places.new (length places.old) }
 {
     for (i, place) in places.iter_mut().enumerate() {
@@ -42,7 +42,7 @@ pub fn mark_places<T: Place>(places: &mut [T])
 }
 
 // So many places of a room, with their marks; `None` where it has not so many.
-pub fn lend<T: Place>(room: &mut [T], size: u32) -> Option<&mut [T]>
+pub(crate) fn lend<T: Place>(room: &mut [T], size: u32) -> Option<&mut [T]>
     ensures { IfSome result (λ places. (length places.now ≡ size) × Marked T.mark_at places.now size) }
 {
     let places = room.get_mut(..usize::try_from(size).ok()?)?;
@@ -58,7 +58,7 @@ fn first_other<T, F: Fn(usize, &T) -> bool>(places: &[T], from: usize, other: F)
 }
 
 // The number of words of so many nodes, as far as they are lent.
-pub fn words_of(nodes: usize, words: &[u64]) -> usize
+pub(crate) fn words_of(nodes: usize, words: &[u64]) -> usize
     ensures { result ≡ min (2 * nodes) (length words.now) }
 {
     nodes.saturating_mul(2).min(words.len())
@@ -66,7 +66,7 @@ pub fn words_of(nodes: usize, words: &[u64]) -> usize
 
 impl<P: Print> Output<'_, P> {
     // ` /` and the values.
-    pub fn put_list<T: Copy + Into<u64>>(&mut self, values: &[T])
+    pub(crate) fn put_list<T: Copy + Into<u64>>(&mut self, values: &[T])
         ensures { length self.new.buffer.now ≡ length self.old.buffer.now }
     {
         self.put(b" /");
@@ -77,7 +77,7 @@ impl<P: Print> Output<'_, P> {
     }
 
     // A place that has not what it should have, else what is said where there is none.
-    pub fn put_place(&mut self, place: Option<usize>, good: &str)
+    pub(crate) fn put_place(&mut self, place: Option<usize>, good: &str)
         ensures { length self.new.buffer.now ≡ length self.old.buffer.now }
     {
         match place {
@@ -87,7 +87,7 @@ impl<P: Print> Output<'_, P> {
     }
 
     // Whether the places from `from` on hold their marks.
-    pub fn put_kept<T: Place>(&mut self, places: &[T], from: usize)
+    pub(crate) fn put_kept<T: Place>(&mut self, places: &[T], from: usize)
         ensures { length self.new.buffer.now ≡ length self.old.buffer.now }
     {
         let changed = first_other(places, from, |i, place| *place != T::mark(i));
@@ -95,7 +95,7 @@ impl<P: Print> Output<'_, P> {
     }
 
     // Whether the words from `from` on are 0.
-    pub fn put_zero(&mut self, words: &[u64], from: usize)
+    pub(crate) fn put_zero(&mut self, words: &[u64], from: usize)
         ensures { length self.new.buffer.now ≡ length self.old.buffer.now }
     {
         let nonzero = first_other(words, from, |_, word| *word != 0);
@@ -103,7 +103,7 @@ impl<P: Print> Output<'_, P> {
     }
 
     // So many values, and whether the places behind them hold their marks.
-    pub fn put_written<T: Place>(&mut self, count: usize, places: &[T])
+    pub(crate) fn put_written<T: Place>(&mut self, count: usize, places: &[T])
         ensures { length self.new.buffer.now ≡ length self.old.buffer.now }
     {
         let taken = count.min(places.len());
@@ -113,7 +113,7 @@ impl<P: Print> Output<'_, P> {
     }
 
     // Whether all places hold their marks.
-    pub fn put_untouched<T: Place>(&mut self, places: &[T])
+    pub(crate) fn put_untouched<T: Place>(&mut self, places: &[T])
         ensures { length self.new.buffer.now ≡ length self.old.buffer.now }
     {
         self.put(b" /");
@@ -121,7 +121,7 @@ impl<P: Print> Output<'_, P> {
     }
 
     // A refusal, and whether all places hold their marks.
-    pub fn put_refused<T: Place>(&mut self, refusal: Refusal, places: &[T])
+    pub(crate) fn put_refused<T: Place>(&mut self, refusal: Refusal, places: &[T])
         ensures { length self.new.buffer.now ≡ length self.old.buffer.now }
     {
         write!(self, "{}", Refused(refusal));

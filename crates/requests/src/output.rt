@@ -1,6 +1,6 @@
 // Bytes to standard output, through a buffer. What is written cannot be said in a contract; what waits to be written can.
 ghost use Rattle.std.specs.Prelude.{◌≡◌, ◌≤◌, length, take};
-ghost use Rattle.requests.specs.Waiting.{waits_then};
+ghost use Rattle.requests.specs.Promises.{waits_then};
 
 use expr::refusal::{Reason, Refusal};
 use std::fmt;
@@ -8,15 +8,15 @@ use std::fmt;
 // The bytes that wait stand at the front of the buffer. That the number of its places stays is promised by each method: it is so of what is there before
 // and after, which no ghost field says.
 #[derive(Drop)]
-pub struct Output<'a, P> {
+pub(crate) struct Output<'a, P> {
     rt: &'a P,
-    pub buffer: &'a mut [u8],
-    pub waiting: usize,
-    pub ghost fits: { waiting ≤ length buffer.now },
+    pub(crate) buffer: &'a mut [u8],
+    pub(crate) waiting: usize,
+    pub(crate) ghost fits: { waiting ≤ length buffer.now },
 }
 
 impl<'a, P: Print> Output<'a, P> {
-    pub fn new(rt: &'a P, buffer: &'a mut [u8]) -> Self
+    pub(crate) fn new(rt: &'a P, buffer: &'a mut [u8]) -> Self
         ensures waiting { result.waiting ≡ 0 }
         ensures places { length result.buffer.now ≡ length buffer.old }
     {
@@ -28,7 +28,7 @@ impl<'a, P: Print> Output<'a, P> {
     }
 
     // Adds bytes to those that wait. Where there is no room for them, what waits is written first.
-    pub fn put(&mut self, bytes: &[u8])
+    pub(crate) fn put(&mut self, bytes: &[u8])
         ensures places { length self.new.buffer.now ≡ length self.old.buffer.now }
         ensures waiting { take self.new.waiting self.new.buffer.now
             ≡ waits_then (length self.old.buffer.now) (take self.old.waiting self.old.buffer.now) bytes.now }
@@ -47,7 +47,7 @@ impl<'a, P: Print> Output<'a, P> {
     }
 
     // Writes the bytes that wait.
-    pub fn flush(&mut self)
+    pub(crate) fn flush(&mut self)
         ensures places { length self.new.buffer.now ≡ length self.old.buffer.now }
         ensures waiting { self.new.waiting ≡ 0 }
     {
@@ -58,7 +58,7 @@ impl<'a, P: Print> Output<'a, P> {
     // What `write!` calls. It cannot fail. As far as contracts say, a `fmt` may leave any other `Output` in the place of the one that it is lent, so it is
     // lent one of its own over the same places, and `min` changes nothing. Nor does any contract say that a `fmt` succeeds, even that of a number, so what
     // waits afterwards is not said.
-    pub fn write_fmt<D: fmt::Display + Drop>(&mut self, text: D)
+    pub(crate) fn write_fmt<D: fmt::Display + Drop>(&mut self, text: D)
         ensures { length self.new.buffer.now ≡ length self.old.buffer.now }
     {
         let mut lent = Output {
@@ -85,7 +85,7 @@ fn write(rt: &impl Print, bytes: &[u8]) {
 
 // A refusal as an answer has it: its number and two values.
 #[derive(Clone, Copy)]
-pub struct Refused(pub Refusal);
+pub(crate) struct Refused(pub(crate) Refusal);
 
 impl fmt::Display for Refused {
     fn fmt<W: fmt::Write>(&self, f: &mut fmt::Formatter<W>) -> fmt::Result {

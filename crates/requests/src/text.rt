@@ -1,13 +1,11 @@
 // The fields of a line, and the numbers that they stand for.
 ghost use Rattle.std.specs.Prelude.{◌≡◌, ◌≤◌, ◌<◌, ◌++◌, ◌∷◌, length, slice_index, IfSome};
 
-// The arrays of the test programs have fixed sizes, since no crate uses the heap: each has room for the largest request.
-
 // More than the 1,024 words that a tree may have, so that a request can have too many of them.
-pub const MOST_WORDS: usize = 1100;
+pub(crate) const MOST_WORDS: usize = 1100;
 
 // More than the 9,219 bytes of the longest frame.
-pub const MOST_BYTES: usize = 9472;
+pub(crate) const MOST_BYTES: usize = 9472;
 
 // The first place where `byte` stands. A function, so that the contract is proved once: `position` promises the runs of its closure, and
 // `first_list` needs what they say of this place.
@@ -26,7 +24,7 @@ fn to_space(text: &[u8]) -> (&[u8], &[u8])
 
 // The name of a request, and the text of its lists. A `str`: a `match` compares one as a whole, where one of bytes has a case for each byte, and the
 // check of a program's cases would take half as long again as all the rest of it.
-pub fn name(line: &[u8]) -> Option<(&str, &[u8])>
+pub(crate) fn name(line: &[u8]) -> Option<(&str, &[u8])>
     ensures { IfSome result (λ p. line.now ≡ p.0.now ++ p.1.now) }
 {
     let (name, lists) = to_space(line);
@@ -35,7 +33,7 @@ pub fn name(line: &[u8]) -> Option<(&str, &[u8])>
 
 // The first list of a text, and the text of the lists behind it; `None` where there is one list alone. A list ends where ` /` stands.
 // A `/` without the space is left in it, where it is no number.
-pub fn first_list(lists: &[u8]) -> Option<(&[u8], &[u8])>
+pub(crate) fn first_list(lists: &[u8]) -> Option<(&[u8], &[u8])>
     ensures { IfSome result (λ p. lists.now ≡ p.0.now ++ 32 ∷ 47 ∷ p.1.now) }
 {
     let slash = find(lists, b'/')?;
@@ -73,7 +71,10 @@ fn first_number(list: &[u8]) -> Option<(u64, &[u8])>
 }
 
 // The numbers of a list, at the front of `values`; `None` where one is no such number, or they do not fit.
-pub fn numbers_in<'a, T: TryFrom<u64> + Copy>(list: &[u8], values: &'a mut [T]) -> Option<&'a [T]>
+pub(crate) fn numbers_in<'a, T: TryFrom<u64> + Copy>(
+    list: &[u8],
+    values: &'a mut [T],
+) -> Option<&'a [T]>
 where
     T::Error: Drop,
     ensures { IfSome result (λ ns. length ns.now ≤ length values.entry.now) }
@@ -91,4 +92,16 @@ where
         rest = others;
     }
     Some(&values[..count])
+}
+
+// The only number of a list.
+pub(crate) fn number_in<T: TryFrom<u64>>(list: &[u8]) -> Option<T>
+where
+    T::Error: Drop,
+{
+    let (value, others) = first_number(list)?;
+    if !others.is_empty() {
+        return None;
+    }
+    T::try_from(value).ok()
 }

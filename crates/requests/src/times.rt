@@ -4,7 +4,7 @@ ghost use Rattle.std.specs.List.{FoldsTo};
 
 // A call with all that it is lent. A trait, so that `last_of` asks nothing: of a closure it would ask that it can be called, and no field of a
 // struct may say that of a closure.
-pub trait Call {
+pub(crate) trait Call {
     type Answer: Drop;
 
     // The call may give this answer and leave this behind. The default says nothing: a program prints what its calls give, and no contract can say
@@ -16,7 +16,7 @@ pub trait Call {
 }
 
 // The answer of the last of so many calls, or of the one where that is 0.
-pub fn last_of<C: Call>(times: u32, repeated: &mut C) -> C::Answer
+pub(crate) fn last_of<C: Call>(times: u32, repeated: &mut C) -> C::Answer
     ensures { (others : List C.Answer) × (before : C)
         × (length others ≡ times - 1) × FoldsTo C.gives repeated.old others before × C.gives before result repeated.new }
 {

@@ -1,5 +1,5 @@
 -- The places before the index have their marks.
-use Rattle.requests.specs.Lent.{Marked}
+use Rattle.requests.specs.Promises.{Marked}
 use Rattle.requests.proofs.lent.mark_places.Given as goal
 
 abbrev pub invariant-loop-i : goal.invariant-loop-i

@@ -1,56 +1,46 @@
-// The calls, and what they leave in the places that they are lent.
+// Requests for a first site.
 ghost use Rattle.std.specs.Prelude.{◌≡◌, length};
 
+use crate::output::Output;
+use crate::text::MOST_WORDS;
+use crate::times::Call;
+use crate::{lent, times};
 use atom_simplifier::FoundSite;
 use expr::refusal::Refusal;
-use requests::output::Output;
-use requests::times::Call;
-use requests::{lent, times};
 
-// `places` have their marks.
-#[derive(Drop)]
-pub(crate) struct Local<'a, 'b> {
-    pub(crate) words: &'a [u64],
-    pub(crate) width: u32,
-    pub(crate) places: &'b mut [u64],
-}
+// No call needs as many bytes for a path.
+const MOST_PATH: usize = 100;
 
-impl Call for Local<'_, '_> {
-    type Answer = Result<Option<usize>, Refusal>;
-
-    fn call(&mut self) -> Result<Option<usize>, Refusal> {
-        atom_simplifier::local_certifiable_atom_rewrite(self.words, self.width, self.places)
-    }
-}
-
-impl Local<'_, '_> {
-    // What the last of so many calls gives and leaves.
-    pub(crate) fn put(mut self, count: u32, out: &mut Output<'_, impl Print>)
-        ensures { length out.new.buffer.now ≡ length out.old.buffer.now }
-    {
-        let rewritten = times::last_of(count, &mut self);
-        let places = self.places;
-        match rewritten {
-            Ok(Some(nodes)) => {
-                write!(out, "{nodes:x}");
-                out.put_written(lent::words_of(nodes, places), places);
-            }
-            Ok(None) => {
-                out.put(b"none");
-                out.put_untouched(places);
-            }
-            Err(r) => out.put_refused(r, places),
-        }
-    }
+// So many calls that are lent so many words, and bytes for a path.
+pub(crate) fn answer(
+    words: &[u64],
+    width: u32,
+    size: u32,
+    bytes: u32,
+    count: u32,
+    out: &mut Output<'_, impl Print>,
+) -> Option<()>
+    ensures { length out.new.buffer.now ≡ length out.old.buffer.now }
+{
+    let mut room = [0u64; MOST_WORDS];
+    let mut way = [0u8; MOST_PATH];
+    let site = Site {
+        words,
+        width,
+        path: lent::lend(&mut way, bytes)?,
+        places: lent::lend(&mut room, size)?,
+    };
+    site.put(count, out);
+    Some(())
 }
 
 // `path` and `places` have their marks.
 #[derive(Drop)]
-pub(crate) struct Site<'a, 'b> {
-    pub(crate) words: &'a [u64],
-    pub(crate) width: u32,
-    pub(crate) path: &'b mut [u8],
-    pub(crate) places: &'b mut [u64],
+struct Site<'a, 'b> {
+    words: &'a [u64],
+    width: u32,
+    path: &'b mut [u8],
+    places: &'b mut [u64],
 }
 
 impl Call for Site<'_, '_> {
@@ -68,7 +58,7 @@ impl Call for Site<'_, '_> {
 
 impl Site<'_, '_> {
     // What the last of so many calls gives and leaves.
-    pub(crate) fn put(mut self, count: u32, out: &mut Output<'_, impl Print>)
+    fn put(mut self, count: u32, out: &mut Output<'_, impl Print>)
         ensures { length out.new.buffer.now ≡ length out.old.buffer.now }
     {
         let found = times::last_of(count, &mut self);

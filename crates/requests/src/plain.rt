@@ -1,34 +1,35 @@
-// The answer to a request, by how many lists it has and by the function that it names.
-use crate::answer::Answer;
-use crate::arithmetic;
+// Requests to calls that are lent nothing to write, in `arith`, `expr`, `width`, `expr_cost` and `value`.
+ghost use Rattle.std.specs.Prelude.{◌≡◌, length};
+
+mod accepted;
+mod arithmetic;
+
+use crate::output::{Output, Refused};
+use crate::plain::accepted::Accepted;
+use crate::text;
+use crate::text::MOST_WORDS;
 use expr::refusal::Refusal;
 use expr_cost::ExprCost;
-use requests::output::{Output, Refused};
-use requests::replay::Answers;
-use requests::text;
-use requests::text::MOST_WORDS;
 
-type Outcome = Result<Answer, Refusal>;
+type Outcome = Result<Accepted, Refusal>;
 
-pub(crate) struct Lists;
-
-impl Answers for Lists {
-    fn answer<P: Print>(line: &[u8], out: &mut Output<'_, P>) -> Option<()> {
-        match outcome_of(line)? {
-            Ok(answer) => write!(out, "{answer}"),
-            Err(r) => write!(out, "{}", Refused(r)),
-        }
-        Some(())
+// By the number of its lists and its name.
+pub(crate) fn answer(name: &str, lists: &[u8], out: &mut Output<'_, impl Print>) -> Option<()>
+    ensures { length out.new.buffer.now ≡ length out.old.buffer.now }
+{
+    match outcome_of(name, lists)? {
+        Ok(accepted) => write!(out, "{accepted}"),
+        Err(r) => write!(out, "{}", Refused(r)),
     }
+    Some(())
 }
 
 // What a call gives.
-fn given<T: Into<Answer>>(outcome: Result<T, Refusal>) -> Option<Outcome> {
+fn given<T: Into<Accepted>>(outcome: Result<T, Refusal>) -> Option<Outcome> {
     Some(outcome.map(|x| x.into()))
 }
 
-fn outcome_of(line: &[u8]) -> Option<Outcome> {
-    let (name, lists) = text::name(line)?;
+fn outcome_of(name: &str, lists: &[u8]) -> Option<Outcome> {
     let Some((first, others)) = text::first_list(lists) else {
         return of_one_list(name, lists);
     };
@@ -40,7 +41,6 @@ fn outcome_of(line: &[u8]) -> Option<Outcome> {
 }
 
 fn of_one_list(name: &str, list: &[u8]) -> Option<Outcome> {
-    // fixed sizes, since no crate uses the heap: the largest request fits
     let mut room = [0u64; MOST_WORDS];
     let words = text::numbers_in(list, &mut room)?;
     match (name, words) {
@@ -79,15 +79,12 @@ fn cost_in(list: &[u8]) -> Option<ExprCost> {
 // The text of a width, and of the lists behind it: widths, and what else the request has.
 fn of_widths(name: &str, width: &[u8], lists: &[u8]) -> Option<Outcome> {
     let (var_widths, others) = text::first_list(lists)?;
-    let mut number_room = [0u32; 1];
     let mut width_room = [0u32; MOST_WORDS];
-    let [width] = text::numbers_in(width, &mut number_room)? else {
-        return None;
-    };
+    let width = text::number_in(width)?;
     let var_widths = text::numbers_in(var_widths, &mut width_room)?;
     match name {
-        "value" => of_setting(others, *width, var_widths),
-        _ => of_tree(name, others, *width, var_widths),
+        "value" => of_setting(others, width, var_widths),
+        _ => of_tree(name, others, width, var_widths),
     }
 }
 
