@@ -1,6 +1,4 @@
 // Requests to `atom_identity_rewrite`.
-ghost use Rattle.std.specs.Prelude.{◌≡◌, length};
-
 use crate::output::Output;
 use crate::text::MOST_WORDS;
 use crate::times::Call;
@@ -8,9 +6,7 @@ use crate::{lent, text, times};
 use atom_identity_rewrite::Found;
 use expr::refusal::Refusal;
 
-pub(crate) fn answer(name: &str, lists: &[u8], out: &mut Output<'_, impl Print>) -> Option<()>
-    ensures { length out.new.buffer.now ≡ length out.old.buffer.now }
-{
+pub(crate) fn answer(name: &str, lists: &[u8], out: &mut Output<'_, impl Print>) -> Option<()> {
     let (numbers, words) = text::first_list(lists)?;
     let mut number_room = [0u64; 4];
     let mut word_room = [0u64; MOST_WORDS];
@@ -51,9 +47,7 @@ impl Call for Candidate<'_, '_> {
 
 impl Candidate<'_, '_> {
     // What the last of so many calls gives and leaves.
-    fn put(mut self, count: u32, out: &mut Output<'_, impl Print>)
-        ensures { length out.new.buffer.now ≡ length out.old.buffer.now }
-    {
+    fn put(mut self, count: u32, out: &mut Output<'_, impl Print>) {
         let found = times::last_of(count, &mut self);
         let places = self.places;
         match found {

@@ -1,6 +1,4 @@
 // Requests to `atom_simplifier::chain`.
-ghost use Rattle.std.specs.Prelude.{◌≡◌, length};
-
 use crate::output::Output;
 use crate::text::MOST_WORDS;
 use crate::times::Call;
@@ -12,9 +10,7 @@ use expr::refusal::Refusal;
 // More than the 26,104 words that the tree of 512 nodes with the largest D needs.
 const MOST_WORK: usize = 26240;
 
-pub(crate) fn answer(name: &str, lists: &[u8], out: &mut Output<'_, impl Print>) -> Option<()>
-    ensures { length out.new.buffer.now ≡ length out.old.buffer.now }
-{
+pub(crate) fn answer(name: &str, lists: &[u8], out: &mut Output<'_, impl Print>) -> Option<()> {
     let (numbers, lists) = text::first_list(lists)?;
     let (var_widths, words) = text::first_list(lists)?;
     let mut number_room = [0u32; 3];
@@ -59,9 +55,7 @@ impl Call for Chain<'_, '_> {
 
 impl Chain<'_, '_> {
     // What the last of so many calls gives and leaves.
-    fn put(mut self, count: u32, out: &mut Output<'_, impl Print>)
-        ensures { length out.new.buffer.now ≡ length out.old.buffer.now }
-    {
+    fn put(mut self, count: u32, out: &mut Output<'_, impl Print>) {
         let outcome = times::last_of(count, &mut self);
         let work = self.work;
         match outcome {
@@ -72,9 +66,7 @@ impl Chain<'_, '_> {
 }
 
 // The end tree, and whether the words behind it are 0.
-fn put_end(end: ChainEnd, work: &[u64], out: &mut Output<'_, impl Print>)
-    ensures { length out.new.buffer.now ≡ length out.old.buffer.now }
-{
+fn put_end(end: ChainEnd, work: &[u64], out: &mut Output<'_, impl Print>) {
     let taken = lent::words_of(end.nodes, work);
     write!(out, "{:x} {:x}", end.nodes, end.rewrites);
     out.put_list(&work[..taken]);

@@ -1,6 +1,4 @@
 // Requests to `frame`, and to what its calls stand on.
-ghost use Rattle.std.specs.Prelude.{◌≡◌, length};
-
 pub(crate) mod chunks;
 pub(crate) mod digits;
 pub(crate) mod words;
@@ -11,18 +9,14 @@ use crate::{lent, text, zeros};
 use frame::Frame;
 
 // A number of bytes.
-pub(crate) fn nodes_in(list: &[u8], out: &mut Output<'_, impl Print>) -> Option<()>
-    ensures { length out.new.buffer.now ≡ length out.old.buffer.now }
-{
+pub(crate) fn nodes_in(list: &[u8], out: &mut Output<'_, impl Print>) -> Option<()> {
     let nodes = frame::nodes_in(text::number_in(list)?).unwrap_or(0);
     write!(out, "{nodes:x}");
     Some(())
 }
 
 // So many words, and a line.
-pub(crate) fn read_frame(lists: &[u8], out: &mut Output<'_, impl Print>) -> Option<()>
-    ensures { length out.new.buffer.now ≡ length out.old.buffer.now }
-{
+pub(crate) fn read_frame(lists: &[u8], out: &mut Output<'_, impl Print>) -> Option<()> {
     let (size, line) = text::first_list(lists)?;
     let mut from = zeros::<u8, MOST_BYTES>();
     let mut to = [0u64; MOST_WORDS];
@@ -39,9 +33,7 @@ pub(crate) fn read_frame(lists: &[u8], out: &mut Output<'_, impl Print>) -> Opti
 }
 
 // A width and so many bytes, and the words of a tree.
-pub(crate) fn write_frame(lists: &[u8], out: &mut Output<'_, impl Print>) -> Option<()>
-    ensures { length out.new.buffer.now ≡ length out.old.buffer.now }
-{
+pub(crate) fn write_frame(lists: &[u8], out: &mut Output<'_, impl Print>) -> Option<()> {
     let (numbers, words) = text::first_list(lists)?;
     let mut number_room = [0u32; 2];
     let mut from = [0u64; MOST_WORDS];

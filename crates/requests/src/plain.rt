@@ -1,6 +1,4 @@
 // Requests to calls that are lent nothing to write, in `arith`, `expr`, `width`, `expr_cost` and `value`.
-ghost use Rattle.std.specs.Prelude.{◌≡◌, length};
-
 mod accepted;
 mod arithmetic;
 
@@ -14,9 +12,7 @@ use expr_cost::ExprCost;
 type Outcome = Result<Accepted, Refusal>;
 
 // By the number of its lists and its name.
-pub(crate) fn answer(name: &str, lists: &[u8], out: &mut Output<'_, impl Print>) -> Option<()>
-    ensures { length out.new.buffer.now ≡ length out.old.buffer.now }
-{
+pub(crate) fn answer(name: &str, lists: &[u8], out: &mut Output<'_, impl Print>) -> Option<()> {
     match outcome_of(name, lists)? {
         Ok(accepted) => write!(out, "{accepted}"),
         Err(r) => write!(out, "{}", Refused(r)),

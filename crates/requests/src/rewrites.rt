@@ -1,6 +1,4 @@
 // Requests to `atom_simplifier`.
-ghost use Rattle.std.specs.Prelude.{◌≡◌, length};
-
 mod local;
 mod site;
 
@@ -8,9 +6,7 @@ use crate::output::Output;
 use crate::text;
 use crate::text::MOST_WORDS;
 
-pub(crate) fn answer(name: &str, lists: &[u8], out: &mut Output<'_, impl Print>) -> Option<()>
-    ensures { length out.new.buffer.now ≡ length out.old.buffer.now }
-{
+pub(crate) fn answer(name: &str, lists: &[u8], out: &mut Output<'_, impl Print>) -> Option<()> {
     let (numbers, words) = text::first_list(lists)?;
     let mut number_room = [0u32; 4];
     let mut word_room = [0u64; MOST_WORDS];

@@ -1,14 +1,10 @@
 // Requests to `lines`.
-ghost use Rattle.std.specs.Prelude.{◌≡◌, length};
-
 use crate::output::Output;
 use crate::text::MOST_BYTES;
 use crate::{lent, text, zeros};
 
 // A chunk.
-pub(crate) fn end_of(list: &[u8], out: &mut Output<'_, impl Print>) -> Option<()>
-    ensures { length out.new.buffer.now ≡ length out.old.buffer.now }
-{
+pub(crate) fn end_of(list: &[u8], out: &mut Output<'_, impl Print>) -> Option<()> {
     let mut room = zeros::<u8, MOST_BYTES>();
     let end = lines::end_of(text::numbers_in(list, &mut room)?);
     write!(out, "{end:x}");
@@ -17,9 +13,7 @@ pub(crate) fn end_of(list: &[u8], out: &mut Output<'_, impl Print>) -> Option<()
 
 // How much of a line is kept and how many places it has; what it begins with; a chunk. The line is a part of one with all marks, so that it has what
 // fits.
-pub(crate) fn keep(lists: &[u8], out: &mut Output<'_, impl Print>) -> Option<()>
-    ensures { length out.new.buffer.now ≡ length out.old.buffer.now }
-{
+pub(crate) fn keep(lists: &[u8], out: &mut Output<'_, impl Print>) -> Option<()> {
     let (numbers, lists) = text::first_list(lists)?;
     let (start, chunk) = text::first_list(lists)?;
     let mut number_room = [0u32; 2];

@@ -1,14 +1,10 @@
 // Requests to `hexadecimal`.
-ghost use Rattle.std.specs.Prelude.{◌≡◌, length};
-
 use crate::output::Output;
 use crate::text::{MOST_BYTES, MOST_WORDS};
 use crate::{lent, text, zeros};
 
 // The digits.
-pub(crate) fn number(list: &[u8], out: &mut Output<'_, impl Print>) -> Option<()>
-    ensures { length out.new.buffer.now ≡ length out.old.buffer.now }
-{
+pub(crate) fn number(list: &[u8], out: &mut Output<'_, impl Print>) -> Option<()> {
     let mut room = zeros::<u8, MOST_BYTES>();
     let parsed = hexadecimal::number(text::numbers_in(list, &mut room)?);
     write!(out, "{:x} {:x}", parsed.value, u8::from(parsed.good));
@@ -16,9 +12,7 @@ pub(crate) fn number(list: &[u8], out: &mut Output<'_, impl Print>) -> Option<()
 }
 
 // A number, how many of its last digits, and so many bytes.
-pub(crate) fn put_digits(list: &[u8], out: &mut Output<'_, impl Print>) -> Option<()>
-    ensures { length out.new.buffer.now ≡ length out.old.buffer.now }
-{
+pub(crate) fn put_digits(list: &[u8], out: &mut Output<'_, impl Print>) -> Option<()> {
     let mut number_room = [0u64; 3];
     let mut room = zeros::<u8, MOST_BYTES>();
     let [n, count, size] = text::numbers_in(list, &mut number_room)? else {
@@ -34,9 +28,7 @@ pub(crate) fn put_digits(list: &[u8], out: &mut Output<'_, impl Print>) -> Optio
 }
 
 // A number, and so many bytes for all its digits.
-pub(crate) fn put_number(list: &[u8], out: &mut Output<'_, impl Print>) -> Option<()>
-    ensures { length out.new.buffer.now ≡ length out.old.buffer.now }
-{
+pub(crate) fn put_number(list: &[u8], out: &mut Output<'_, impl Print>) -> Option<()> {
     let mut number_room = [0u64; 2];
     let mut room = zeros::<u8, MOST_BYTES>();
     let [n, size] = text::numbers_in(list, &mut number_room)? else {
@@ -50,9 +42,7 @@ pub(crate) fn put_number(list: &[u8], out: &mut Output<'_, impl Print>) -> Optio
 }
 
 // So many words, and the digits of nodes.
-pub(crate) fn read_nodes(lists: &[u8], out: &mut Output<'_, impl Print>) -> Option<()>
-    ensures { length out.new.buffer.now ≡ length out.old.buffer.now }
-{
+pub(crate) fn read_nodes(lists: &[u8], out: &mut Output<'_, impl Print>) -> Option<()> {
     let (size, digits) = text::first_list(lists)?;
     let mut from = zeros::<u8, MOST_BYTES>();
     let mut to = [0u64; MOST_WORDS];
@@ -66,9 +56,7 @@ pub(crate) fn read_nodes(lists: &[u8], out: &mut Output<'_, impl Print>) -> Opti
 }
 
 // So many bytes, and the words of nodes.
-pub(crate) fn put_nodes(lists: &[u8], out: &mut Output<'_, impl Print>) -> Option<()>
-    ensures { length out.new.buffer.now ≡ length out.old.buffer.now }
-{
+pub(crate) fn put_nodes(lists: &[u8], out: &mut Output<'_, impl Print>) -> Option<()> {
     let (size, words) = text::first_list(lists)?;
     let mut from = [0u64; MOST_WORDS];
     let mut to = zeros::<u8, MOST_BYTES>();

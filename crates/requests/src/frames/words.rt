@@ -1,14 +1,10 @@
 // Requests to the calls of `expr` and `width` that frames share with candidates.
-ghost use Rattle.std.specs.Prelude.{◌≡◌, length};
-
 use crate::output::{Output, Refused};
 use crate::text::MOST_WORDS;
 use crate::{lent, text};
 
 // A width, and the words of a tree.
-pub(crate) fn check_tree_at(lists: &[u8], out: &mut Output<'_, impl Print>) -> Option<()>
-    ensures { length out.new.buffer.now ≡ length out.old.buffer.now }
-{
+pub(crate) fn check_tree_at(lists: &[u8], out: &mut Output<'_, impl Print>) -> Option<()> {
     let (width, words) = text::first_list(lists)?;
     let mut room = [0u64; MOST_WORDS];
     let words = text::numbers_in(words, &mut room)?;
@@ -20,9 +16,7 @@ pub(crate) fn check_tree_at(lists: &[u8], out: &mut Output<'_, impl Print>) -> O
 }
 
 // So many words, and those that are copied to them.
-pub(crate) fn copy_words(lists: &[u8], out: &mut Output<'_, impl Print>) -> Option<()>
-    ensures { length out.new.buffer.now ≡ length out.old.buffer.now }
-{
+pub(crate) fn copy_words(lists: &[u8], out: &mut Output<'_, impl Print>) -> Option<()> {
     let (size, words) = text::first_list(lists)?;
     let mut from = [0u64; MOST_WORDS];
     let mut to = [0u64; MOST_WORDS];

@@ -1,6 +1,4 @@
 // Requests for a local rewrite.
-ghost use Rattle.std.specs.Prelude.{◌≡◌, length};
-
 use crate::output::Output;
 use crate::text::MOST_WORDS;
 use crate::times::Call;
@@ -14,9 +12,7 @@ pub(crate) fn answer(
     size: u32,
     count: u32,
     out: &mut Output<'_, impl Print>,
-) -> Option<()>
-    ensures { length out.new.buffer.now ≡ length out.old.buffer.now }
-{
+) -> Option<()> {
     let mut room = [0u64; MOST_WORDS];
     let local = Local {
         words,
@@ -45,9 +41,7 @@ impl Call for Local<'_, '_> {
 
 impl Local<'_, '_> {
     // What the last of so many calls gives and leaves.
-    fn put(mut self, count: u32, out: &mut Output<'_, impl Print>)
-        ensures { length out.new.buffer.now ≡ length out.old.buffer.now }
-    {
+    fn put(mut self, count: u32, out: &mut Output<'_, impl Print>) {
         let rewritten = times::last_of(count, &mut self);
         let places = self.places;
         match rewritten {

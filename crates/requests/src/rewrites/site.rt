@@ -1,6 +1,4 @@
 // Requests for a first site.
-ghost use Rattle.std.specs.Prelude.{◌≡◌, length};
-
 use crate::output::Output;
 use crate::text::MOST_WORDS;
 use crate::times::Call;
@@ -19,9 +17,7 @@ pub(crate) fn answer(
     bytes: u32,
     count: u32,
     out: &mut Output<'_, impl Print>,
-) -> Option<()>
-    ensures { length out.new.buffer.now ≡ length out.old.buffer.now }
-{
+) -> Option<()> {
     let mut room = [0u64; MOST_WORDS];
     let mut way = [0u8; MOST_PATH];
     let site = Site {
@@ -58,9 +54,7 @@ impl Call for Site<'_, '_> {
 
 impl Site<'_, '_> {
     // What the last of so many calls gives and leaves.
-    fn put(mut self, count: u32, out: &mut Output<'_, impl Print>)
-        ensures { length out.new.buffer.now ≡ length out.old.buffer.now }
-    {
+    fn put(mut self, count: u32, out: &mut Output<'_, impl Print>) {
         let found = times::last_of(count, &mut self);
         let Site { path, places, .. } = self;
         match found {
@@ -79,9 +73,7 @@ impl Site<'_, '_> {
 }
 
 // The path and the words, and whether the places behind each hold their marks.
-fn put_found(site: FoundSite, path: &[u8], places: &[u64], out: &mut Output<'_, impl Print>)
-    ensures { length out.new.buffer.now ≡ length out.old.buffer.now }
-{
+fn put_found(site: FoundSite, path: &[u8], places: &[u64], out: &mut Output<'_, impl Print>) {
     let steps = site.path.min(path.len());
     let taken = lent::words_of(site.nodes, places);
     write!(out, "{:x} {:x}", site.path, site.nodes);
