@@ -1,5 +1,5 @@
 // Lower-case hexadecimal digits: numbers, and the words of nodes. Nothing here refuses: each call says what it does where a list is short or
-// a byte is no digit, so that a caller reads digits and tests them in one pass.
+// a byte is no digit.
 #![tactic(auto)]
 
 ghost use Rattle.std.specs.Prelude.{◌≡◌, min, ◌+◌, ◌*◌, ◌/◌, ◌%◌, ◌^◌, ◌<◌, ◌≤◌, ◌&&◌, length, take, is_some, unwrap_or, nat_lt};
