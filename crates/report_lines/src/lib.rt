@@ -111,8 +111,8 @@ fn feed_lines(chunk: &[u8], kept: &mut Kept, printer: &mut Printer, scratch: &mu
 }
 
 // Reads a chunk: puts what is printed of its lines at the front of `out`, up to line 65,535, and as long as there is room for another line. What is
-// left of the chunk is for the next call. `line` keeps the bytes of the line that goes on; `words` and `work` are free to be written. Of many
-// parameters, as `finish` is: memory is fixed, so the caller lends each buffer, and none is part of another.
+// left of the chunk is for the next call. `line` keeps the bytes of the line that goes on; what is behind them, and all of `words` and `work`, is free
+// to be written. Of many parameters, as `finish` is: memory is fixed, so the caller lends each buffer, and none is part of another.
 pub fn feed(
     s: State,
     chunk: &[u8],
