@@ -1,5 +1,5 @@
 -- Steps through a chunk, and chunks one after the other. Assumes nothing.
-use Rattle.std.proofs.Common.{◌≡◌, refl, sym, ap, ap₂, subst, ◌∙◌, Bool, true, List, [], ◌++◌, append_assoc, ℕ, ◌+◌, ◌-◌, ◌≤◌, ◌<◌, length, take, drop, arith, length-append, length-take, length-drop, drop-drop, le-leb}
+use Rattle.std.proofs.Common.{◌≡◌, refl, sym, ap, ap₂, subst, ◌∙◌, Bool, true, List, [], ◌++◌, append_assoc, ℕ, ◌+◌, ◌≤◌, ◌<◌, length, take, drop, arith, length-append, length-take, drop-drop, le-leb}
 use Rattle.std.proofs.Math.Seq.{drop-length}
 use Rattle.expr.specs.Parts.{tail}
 use Rattle.expr.specs.TailLaws.{tail_drop, length_tail}
@@ -114,7 +114,7 @@ module _ (s : State) (line chunk : List ℕ) where
             g.rest more
             ∙ ap (λ (b : List ℕ). g.text ++ rest_of s'.totals (take s'.have line') (b ++ more)) (sym (tail_drop at chunk))
             ∙ ap (λ (b : List ℕ). g.text ++ b) ((fed_leaves s'.totals (take s'.have line') f.room (tail at chunk)).rest more
-              ∙ ap (λ (x : Fed). x.text ++ rest_of x.totals x.kept (drop x.used (tail at chunk) ++ more)) f.step)
+            ∙ ap (λ (x : Fed). x.text ++ rest_of x.totals x.kept (drop x.used (tail at chunk) ++ more)) f.step)
             ∙ sym (append_assoc g.text f.text _)
             ∙ ap (λ (b : List ℕ). (g.text ++ f.text) ++ rest_of s''.totals (take s''.have line'') (b ++ more)) (ap (drop used) (tail_drop at chunk) ∙ drop-drop used at chunk);
         inside = feeding_inside;

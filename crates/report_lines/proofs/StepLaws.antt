@@ -1,6 +1,6 @@
 -- A step: what a turn reads of it. Assumes nothing.
-use mathlib.Core.Path.{◌≡◌, refl, sym, ap, ap₂, subst, ◌∙◌}
-use mathlib.Core.Bool.{Bool, true, false}
+use mathlib.Core.Path.{◌≡◌, refl, sym, ap, ap₂, ◌∙◌}
+use mathlib.Core.Bool.{true, false}
 use mathlib.Core.List.{List, [], ◌∷◌, ◌++◌, append_assoc, append-nil}
 use Prim.Native.Nat.{ℕ, suc, ◌+◌, ◌-◌, ◌≤◌, ◌<◌}
 use native.Mathlib.Omega.{arith}
@@ -49,17 +49,17 @@ module _ (t : Totals) (room : ℕ) (opens : is_open t.lines room ≡ true) where
   fed_ended p [] h o e = never (sym h)
   fed_ended p (b ∷ bs) h o e =
       rw opens (cases (eqb b 10)
-        (λ y. rw y (ap (λ (q : Outcome Done). read_on 1 (text_of (t.lines + 1) q) (after_line t room q bs)) (sym (rw y at e ∙ ap outcome_of (append-nil p)))))
-        (λ n. rw n (ap (read_on 1 []) (fed_ended (take 9219 (p ++ (b ∷ []))) bs (rw n at h) o (rw n at e ∙ sym (line_same p b (up_to bs)))) ∙ byte_on (used_of bs) (text_of (t.lines + 1) o) _)))
+      (λ y. rw y (ap (λ (q : Outcome Done). read_on 1 (text_of (t.lines + 1) q) (after_line t room q bs)) (sym (rw y at e ∙ ap outcome_of (append-nil p)))))
+      (λ n. rw n (ap (read_on 1 []) (fed_ended (take 9219 (p ++ (b ∷ []))) bs (rw n at h) o (rw n at e ∙ sym (line_same p b (up_to bs)))) ∙ byte_on (used_of bs) (text_of (t.lines + 1) o) _)))
 
   fed_going : (p chunk : List ℕ) → has_end chunk ≡ false → length p ≤ 9219 → fed t p room chunk ≡ read_on (length chunk) [] (fed t (take 9219 (p ++ chunk)) room [])
   unfolding fed has_end
   fed_going p [] h k = ap (unread t) (sym (ap (take 9219) (append-nil p) ∙ take_all 9219 p k)) ∙ read_on_none _
   fed_going p (b ∷ bs) h k =
       rw opens (cases (eqb b 10) (λ y. never (rw y at h))
-        (λ n. rw n (ap (read_on 1 []) (fed_going (take 9219 (p ++ (b ∷ []))) bs (rw n at h) (omega (arith, length-take 9219 (p ++ (b ∷ [])))))
-          ∙ byte_on (length bs) [] _
-          ∙ ap (λ (l : List ℕ). read_on (suc (length bs)) [] (unread t l)) (kept_again 9219 (p ++ (b ∷ [])) bs ∙ ap (take 9219) (append_assoc p (b ∷ []) bs)))))
+      (λ n. rw n (ap (read_on 1 []) (fed_going (take 9219 (p ++ (b ∷ []))) bs (rw n at h) (omega (arith, length-take 9219 (p ++ (b ∷ [])))))
+      ∙ byte_on (length bs) [] _
+      ∙ ap (λ (l : List ℕ). read_on (suc (length bs)) [] (unread t l)) (kept_again 9219 (p ++ (b ∷ [])) bs ∙ ap (take 9219) (append_assoc p (b ∷ []) bs)))))
 
 -- ---- `turn`
 

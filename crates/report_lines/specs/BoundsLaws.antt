@@ -1,6 +1,6 @@
 -- The tests of a state and of the lent places, and bounds of what is printed of a line and of the sums with it. Assumes nothing.
-use Rattle.std.specs.Prelude.{◌≡◌, refl, true, ◌&&◌, List, [], ◌∷◌, ◌++◌, ℕ, ◌+◌, ◌*◌, ◌≤◌, ◌<◌, leb, ltb, eqb, length}
-use Rattle.std.proofs.Common.{ap, ◌∙◌, append-nil, arith, length-append, leb-true, ltb-true, eqb-true, le-leb, lt-ltb}
+use Rattle.std.specs.Prelude.{◌≡◌, refl, true, ◌&&◌, List, [], ◌∷◌, ℕ, ◌+◌, ◌*◌, ◌≤◌, ◌<◌, leb, ltb, eqb, length}
+use Rattle.std.proofs.Common.{ap, append-nil, arith, length-append, leb-true, ltb-true, eqb-true, le-leb, lt-ltb}
 use Rattle.arith.specs.ChoiceLaws.{both_true}
 use Rattle.expr.specs.declared.refusal.Reason.{Reason}
 use Rattle.expr.specs.Outcome.{Outcome, refused, accepted, mapped, ◌and_then◌}

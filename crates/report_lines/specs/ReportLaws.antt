@@ -2,11 +2,10 @@
 use Rattle.std.specs.Prelude.{◌≡◌, refl, true, false, List, [], ◌∷◌, ◌++◌, map, ℕ, zero, suc, ◌+◌, ◌-◌, ◌<◌, eqb, take, drop}
 use Rattle.std.proofs.Common.{sym, ap, ap₂, ◌∙◌, append_assoc, arith}
 use Rattle.expr.specs.Outcome.{Outcome}
-use Rattle.frame.specs.FrameLaws.{line_clip}
 use Rattle.lines.specs.Lines.{last_line, lines_from}
 use Rattle.lines.specs.LinesLaws.{clip_first}
 use Rattle.report_lines.specs.declared.Totals.{Totals}
-use Rattle.report_lines.specs.Report.{Done, chained, outcome_of, outcomes, text_of, texts_of, no_totals, plus, totals_of, sums, closing, report_of}
+use Rattle.report_lines.specs.Report.{Done, outcome_of, outcomes, text_of, texts_of, no_totals, plus, totals_of, sums, closing, report_of}
 use Rattle.report_lines.specs.Steps.{Fed, read_on, line_text, with_line, fed, outcomes_left, rest_of, joined, Stepped}
 use Rattle.report_lines.specs.StepsLaws.{outcome_clip, each_byte}
 

@@ -1,12 +1,12 @@
 -- The report in steps: what a call reads, prints and keeps, and what is still to be printed between two chunks of the input. Definitions only.
-use Rattle.std.specs.Prelude.{◌≡◌, Bool, true, false, ◌&&◌, List, [], ◌∷◌, ◌++◌, map, ℕ, ◌+◌, ◌-◌, ◌*◌, leb, ltb, eqb, length, take, drop, if◌then◌else◌}
+use Rattle.std.specs.Prelude.{◌≡◌, Bool, true, false, not, ◌&&◌, List, [], ◌∷◌, ◌++◌, map, ℕ, ◌+◌, ◌-◌, ◌*◌, leb, ltb, eqb, length, take, drop, if◌then◌else◌}
 use Rattle.expr.specs.Outcome.{Outcome}
 use Rattle.expr.specs.Lent.{over}
 use Rattle.lines.specs.Lines.{lines_from}
 use Rattle.report_lines.specs.declared.Totals.{Totals}
 use Rattle.report_lines.specs.declared.State.{State}
 use Rattle.report_lines.specs.declared.Step.{Step}
-use Rattle.report_lines.specs.Report.{Done, outcome_of, text_of, texts_of, no_totals, plus, totals_of, sums, closing}
+use Rattle.report_lines.specs.Report.{Done, outcome_of, text_of, texts_of, plus, totals_of, sums, closing}
 
 -- ---- a step
 
@@ -43,12 +43,9 @@ with_line t line = plus t (totals_of (outcome_of line))
 unfoldable pub fed : Totals → List ℕ → ℕ → List ℕ → Fed
 fed t kept room [] = unread t kept
 fed t kept room (b ∷ bs) =
-    if is_open t.lines room
-    then (
-      if eqb b 10
-      then read_on 1 (line_text t kept) (fed (with_line t kept) [] (room - length (line_text t kept)) bs)
-      else read_on 1 [] (fed t (take 9219 (kept ++ (b ∷ []))) room bs))
-    else unread t kept
+    if not (is_open t.lines room) then unread t kept else
+    if eqb b 10 then read_on 1 (line_text t kept) (fed (with_line t kept) [] (room - length (line_text t kept)) bs) else
+    read_on 1 [] (fed t (take 9219 (kept ++ (b ∷ []))) room bs)
 
 -- ---- what is left
 

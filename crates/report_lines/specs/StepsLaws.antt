@@ -1,5 +1,5 @@
 -- What holds of each step. Assumes nothing.
-use Rattle.std.specs.Prelude.{◌≡◌, true, false, List, [], ◌∷◌, ◌++◌, ℕ, suc, ◌+◌, ◌-◌, ◌≤◌, ◌<◌, eqb, length, take}
+use Rattle.std.specs.Prelude.{◌≡◌, true, false, List, [], ◌∷◌, ◌++◌, ℕ, ◌+◌, ◌-◌, ◌≤◌, ◌<◌, eqb, length, take}
 use Rattle.std.proofs.Common.{ap, arith, length-take}
 use Rattle.expr.specs.Outcome.{◌and_then◌}
 use Rattle.frame.specs.FrameLaws.{line_clip}
@@ -17,7 +17,7 @@ outcome_clip l = ap (λ o. o and_then chained) (line_clip l)
 -- what holds where nothing is read, and of a byte where it holds of the bytes after it, holds of each step
 module _ (P : Totals → List ℕ → List ℕ → Fed → Type 0) (stops : (t : Totals) (kept chunk : List ℕ) → P t kept chunk (unread t kept))
     (line : (t : Totals) (kept : List ℕ) (b : ℕ) (bs : List ℕ) (f : Fed) → t.lines < 65535 → eqb b 10 ≡ true → P (with_line t kept) [] bs f
-      → P t kept (b ∷ bs) (read_on 1 (line_text t kept) f))
+    → P t kept (b ∷ bs) (read_on 1 (line_text t kept) f))
     (byte : (t : Totals) (kept : List ℕ) (b : ℕ) (bs : List ℕ) (f : Fed) → eqb b 10 ≡ false → P t (take 9219 (kept ++ (b ∷ []))) bs f → P t kept (b ∷ bs) (read_on 1 [] f)) where
   pub each_byte : (t : Totals) (kept : List ℕ) (room : ℕ) (chunk : List ℕ) → P t kept chunk (fed t kept room chunk)
   unfolding fed
@@ -25,8 +25,8 @@ module _ (P : Totals → List ℕ → List ℕ → Fed → Type 0) (stops : (t :
   each_byte t kept room (b ∷ bs) =
       cases (is_open t.lines room)
       (λ o. rw o (cases (eqb b 10)
-        (λ e. rw e (line t kept b bs _ (open_lines t.lines room o) e (each_byte (with_line t kept) [] (room - length (line_text t kept)) bs)))
-        (λ e. rw e (byte t kept b bs _ e (each_byte t (take 9219 (kept ++ (b ∷ []))) room bs)))))
+      (λ e. rw e (line t kept b bs _ (open_lines t.lines room o) e (each_byte (with_line t kept) [] (room - length (line_text t kept)) bs)))
+      (λ e. rw e (byte t kept b bs _ e (each_byte t (take 9219 (kept ++ (b ∷ []))) room bs)))))
       (λ o. rw o (stops t kept (b ∷ bs)))
 
 -- so much a step reads and keeps, and so are the sums then

@@ -1,5 +1,5 @@
 -- `report::Report::feed_chunk` meets its contract. Assumes nothing.
-use Rattle.std.proofs.Common.{◌+◌, ◌≤◌, length, arith}
+use Rattle.std.proofs.Common.{arith}
 use borrow.Author.Rules.{rules}
 use Rattle.report.proofs.ReadingLaws.{feeding_first, feeding_on, feeding_more, feeding_inside, feeding_last}
 use Rattle.report.proofs.Report.feed_chunk.Goals as goal

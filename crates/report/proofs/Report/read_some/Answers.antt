@@ -1,5 +1,5 @@
 -- `report::Report::read_some` meets its contract. Assumes nothing.
-use Rattle.std.proofs.Common.{length, take, length-take, arith}
+use Rattle.std.proofs.Common.{length-take, arith}
 use Rattle.report.proofs.ReadingLaws.{lines_left}
 use Rattle.report.proofs.Report.read_some.Goals as goal
 
