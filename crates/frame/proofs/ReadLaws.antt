@@ -22,7 +22,7 @@ use Rattle.hexadecimal.specs.HexLaws.{digit_cases, all_append, number_below, num
 use Rattle.hexadecimal.specs.Nodes.{words_of}
 use Rattle.hexadecimal.specs.NodesLaws.{length_words}
 use Rattle.frame.specs.Frame.{nodes_in, line_words, with_places, read_line, unended, framed, read_frame}
-use Rattle.frame.specs.FrameLaws.{bytes_of_nodes, line_read, read_roomy, told, line_left, unended_last}
+use Rattle.frame.specs.FrameLaws.{bytes_of_nodes, line_read, read_roomy, line_frame, line_left, unended_last}
 use Rattle.width.specs.Checked.{checked, width_of_call}
 use Rattle.expr.specs.Room.{with_words}
 use Rattle.expr.specs.Parse.{parse}
@@ -150,10 +150,10 @@ module _ (line : List ℕ) (n : ℕ) (h : (n ≡ nodes_in (length line)) × (1 �
           pub width_fits : Fits w32 width.value
           width_fits = omega (arith, value_is, number_below (take 2 line) 2 (omega (arith, length-take 2 line)))
 
-          pub line_answer : accepted (record { width = width.value; nodes = n }) ≡ mapped told (read_line line (length before))
+          pub line_answer : accepted (record { width = width.value; nodes = n }) ≡ mapped line_frame (read_line line (length before))
           line_answer =
               let half : n ≡ length (words_of n (drop 2 line)) / 2 = omega (arith, length_words n (drop 2 line)) in
-              ap₂ (λ (v i : ℕ). accepted (record { width = v; nodes = i })) value_is half ∙ sym (ap (mapped told) with_room)
+              ap₂ (λ (v i : ℕ). accepted (record { width = v; nodes = i })) value_is half ∙ sym (ap (mapped line_frame) with_room)
 
 pub ruleset lining = (refusal_answer, refusal_keeps, no_length, width_there, words_fit, bad_digit, too_few, words_left, width_fits, line_answer)
 
@@ -207,11 +207,11 @@ module _ (line bs : List ℕ) (e : bs ≡ unended line) (room : ℕ) where
   came : read_line bs (length own) ≡ line_words (unended line)
   came = read_roomy bs (length own) (omega (arith, length-replicate {0} {A = ℕ} 1024 0)) ∙ ap line_words e
 
-  pub not_read : (r : Reason) → refused r ≡ mapped told (read_line bs (length own)) → read_frame line room ≡ refused r
+  pub not_read : (r : Reason) → refused r ≡ mapped line_frame (read_line bs (length own)) → read_frame line room ≡ refused r
   unfolding read_frame
-  not_read r f = sym (refused_then told (framed room) (line_words (unended line)) (f ∙ ap (mapped told) came))
+  not_read r f = sym (refused_then line_frame (framed room) (line_words (unended line)) (f ∙ ap (mapped line_frame) came))
 
-  pub was_read : (f : Frame) (after : List ℕ) → accepted f ≡ mapped told (read_line bs (length own)) → after ≡ lent_after (λ p. p.1) (read_line bs (length own)) own
+  pub was_read : (f : Frame) (after : List ℕ) → accepted f ≡ mapped line_frame (read_line bs (length own)) → after ≡ lent_after (λ p. p.1) (read_line bs (length own)) own
       → read_frame line room ≡ framed room (f.width, take (2 * f.nodes) after)
   unfolding read_frame
   was_read f after h l = then_accepted (ap line_words (sym e) ∙ (line_left bs own after f h l).is) (framed room)

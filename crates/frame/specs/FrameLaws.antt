@@ -95,8 +95,8 @@ line_clip bs = go (leb (length bs) 9219) refl
 -- ---- lines that are read
 
 -- the answer for a width and words
-abbrev pub told : ℕ × List ℕ → Frame
-told p = record { width = p.0; nodes = length p.1 / 2 }
+abbrev pub line_frame : ℕ × List ℕ → Frame
+line_frame p = record { width = p.0; nodes = length p.1 / 2 }
 
 module _ (line : List ℕ) where
   line_few : (w : ℕ) (ws : List ℕ) → line_words line ≡ accepted (w, ws) → (length ws ≡ 2 * nodes_in (length line)) × (nodes_in (length line) ≤ 512)
@@ -114,7 +114,7 @@ module _ (line : List ℕ) where
       go (accepted p) e = rw (le-ltb room (length p.1) (omega (arith, line_few p.0 p.1 e)))
 
   -- what an answer of `read_line` says of the line, and of the words that it leaves
-  pub record Read (f : Frame) (after : List ℕ) : Type 0 where
+  pub record LineLeft (f : Frame) (after : List ℕ) : Type 0 where
     pub is : line_words line ≡ accepted (f.width, take (2 * f.nodes) after)
     pub few : f.nodes ≤ 512
 
@@ -122,10 +122,10 @@ module _ (line : List ℕ) where
     abbrev came : Outcome (ℕ × List ℕ)
     came = read_line line (length before)
 
-    pub line_left : (f : Frame) → accepted f ≡ mapped told came → after ≡ lent_after (λ p. p.1) came before → Read f after
+    pub line_left : (f : Frame) → accepted f ≡ mapped line_frame came → after ≡ lent_after (λ p. p.1) came before → LineLeft f after
     unfolding read_line with_places
     line_left f e l =
-        let m = mapped_made told came e in
+        let m = mapped_made line_frame came e in
         let c = then_came (with_places (length before)) (line_words line) m.was in
         let k = else_came (accepted c.answer) (refusal 9) (ltb (length before) (length c.answer.1)) c.made in
         let was : line_words line ≡ accepted m.answer = c.was ∙ ap accepted (same_answer k.1) in

@@ -27,7 +27,7 @@ use Rattle.atom_simplifier.specs.declared.chain.ChainEnd.{ChainEnd}
 use Rattle.expr.specs.Answers.{outcome}
 use Rattle.atom_simplifier.specs.Answers.{end_numbers}
 use Rattle.frame.specs.Frame.{frame, with_bytes, line_words, read_line}
-use Rattle.frame.specs.FrameLaws.{length_frame, read_roomy, told, Read, line_left}
+use Rattle.frame.specs.FrameLaws.{length_frame, read_roomy, line_frame, LineLeft, line_left}
 use Rattle.frame.specs.declared.Frame.{Frame}
 use Rattle.report_lines.specs.declared.Totals.{Totals}
 use Rattle.report_lines.specs.Report.{Done, chained, outcome_of, fields, row_of, text_of}
@@ -162,12 +162,12 @@ pub ruleset chaining = (chain_down, end_fits, end_taken, width_least, width_most
 -- ---- a line
 
 module _ (line before words : List ℕ) (room : 1024 ≤ length before) where
-  pub line_down : (r : Reason) → refused r ≡ mapped told (read_line line (length before)) → refused r ≡ outcome_of line
+  pub line_down : (r : Reason) → refused r ≡ mapped line_frame (read_line line (length before)) → refused r ≡ outcome_of line
   unfolding outcome_of
-  line_down r e = refused_then told chained (line_words line) (e ∙ ap (mapped told) (read_roomy line (length before) room))
+  line_down r e = refused_then line_frame chained (line_words line) (e ∙ ap (mapped line_frame) (read_roomy line (length before) room))
 
-  module _ (f : Frame) (e : accepted f ≡ mapped told (read_line line (length before))) (l : words ≡ lent_after (λ p. p.1) (read_line line (length before)) before) where
-    left : Read line f words
+  module _ (f : Frame) (e : accepted f ≡ mapped line_frame (read_line line (length before))) (l : words ≡ lent_after (λ p. p.1) (read_line line (length before)) before) where
+    left : LineLeft line f words
     left = line_left line before words f e l
 
     pub count_few : length (take (2 * f.nodes) words) ≤ 1024
