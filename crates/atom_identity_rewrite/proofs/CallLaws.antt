@@ -1,5 +1,5 @@
 -- The candidates of the tree that the words are, one tag after the other, and the public call. Assumes nothing.
-use Rattle.std.specs.Prelude.{◌≡◌, refl, Bool, true, false, List, [], ◌∷◌, ◌++◌, ℕ, zero, suc, ◌+◌, ◌*◌, ◌-◌, ◌/◌, ◌≤◌, eqb, ltb, length, get_or, if◌then◌else◌, Option}
+use Rattle.std.specs.Prelude.{◌≡◌, refl, Bool, true, false, List, [], ◌∷◌, ◌++◌, ℕ, zero, suc, ◌+◌, ◌*◌, ◌-◌, ◌/◌, ◌≤◌, ◌<◌, eqb, ltb, length, get_or, if◌then◌else◌, Option}
 use Rattle.std.proofs.Common.{sym, ap, ap₂, subst, ◌∙◌, arith, append-nil, add-zero, eq-eqb, ne_eqb}
 use Rattle.std.proofs.Math.Option as option
 use Rattle.std.proofs.Math.Option.{none, some}
@@ -16,9 +16,9 @@ use Rattle.expr.specs.Front.{Exactly, Whole, tree_at}
 use Rattle.expr.specs.PartLaws.{exact_length}
 use Rattle.expr.specs.Parse.{parse}
 use Rattle.expr.specs.Room.{room_for, with_words}
-use Rattle.width.specs.Checked.{width_of_call}
+use Rattle.width.specs.Checked.{checked, width_of_call}
 use Rattle.expr.specs.declared.refusal.Reason.{Reason}
-use Rattle.width.specs.CheckedLaws.{given_width, width_refused, checked_parse, roomy}
+use Rattle.width.specs.CheckedLaws.{given_width, width_refused, checked_parse, checked_tree, too_little, roomy}
 use Rattle.rewriting.specs.MatchLaws.{neg_number}
 use Rattle.rewriting.specs.AtomIdentityRewrite as def
 use Rattle.rewriting.specs.AtomIdentityRewrite.{to_list, match_xor_and_absorb, match_xor_via_or_minus_and, match_and_via_not_or_minus_not, flatten_addends, lax_and, lax_xor, each, is_add, tagged, lax_candidates, candidates}
@@ -171,6 +171,13 @@ module _ (t : Expr) (w number : ℕ) where
 pub ruleset handing = (left_less, no_more_lem, candidate_fits, found_answers)
 
 -- ---- `try_match_all`
+
+-- fewer words than the tree has
+pub room_refused : (ws : List ℕ) (w room n : ℕ) → accepted n ≡ mapped nodes (checked w ws) → room < 2 * n → refused (refusal 9) ≡ mapped nodes (checked w ws and_then with_words room)
+room_refused ws w room n e f =
+    let m = checked_tree w ws n e in
+    let l : room < 2 * nodes m.tree = omega (arith, m.count) in
+    sym (ap (mapped nodes) (too_little _ room m.is l))
 
 module _ (ws : List ℕ) (w number room : ℕ) where
   -- what is asked for, of the tree that was read

@@ -61,6 +61,9 @@ masked_of w n (leaf (Variable i)) = refl
 masked_of w n (unary k t) = refl
 masked_of w n (binary k l r) = refl
 
+pub masked_low : (w n c : ℕ) {v : ℕ} → c < 2 ^ 64 → v ≡ low_bits c w → eqb v n ≡ eqb (c % 2 ^ w) n
+masked_low w n c h e = ap (λ (m : ℕ). eqb m n) (e ∙ low_word w c h)
+
 constant_there : (t : Expr) → is_there (constant_of t) ≡ is_constant_node t
 unfolding is_constant_node
 constant_there (leaf (Constant c)) = refl
@@ -77,7 +80,7 @@ module _ (t : Expr) (o : Option ℕ) (h : option_of o ≡ constant_of t) where
   masked_none w n e = ap (holds (λ c. eqb (c % 2 ^ w) n)) (ap option_of (sym e) ∙ h) ∙ masked_of w n t
 
   pub masked_some : (w n c : ℕ) → o ≡ Some c → c < 2 ^ 64 → (v : ℕ) → v ≡ low_bits c w → eqb v n ≡ is_masked w n t
-  masked_some w n c e k v f = ap (λ (m : ℕ). eqb m n) (f ∙ low_word w c k) ∙ ap (holds (λ c. eqb (c % 2 ^ w) n)) (ap option_of (sym e) ∙ h) ∙ masked_of w n t
+  masked_some w n c e k v f = masked_low w n c k f ∙ ap (holds (λ c. eqb (c % 2 ^ w) n)) (ap option_of (sym e) ∙ h) ∙ masked_of w n t
 
   pub constant_factor : (f : Factor) → f ≡ factor.Constant → is_some o ≡ factor_of f t
   constant_factor f e = there_is o ∙ ap is_there h ∙ constant_there t ∙ sym (ap (λ (g : Factor). factor_of g t) e)

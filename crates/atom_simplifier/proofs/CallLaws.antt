@@ -19,8 +19,8 @@ use Rattle.expr.specs.Expr.{Expr, encode, nodes, depth}
 use Rattle.expr.specs.ExprLaws.{length_encode}
 use Rattle.expr.specs.Parse.{parse}
 use Rattle.expr.specs.Front.{tree_at}
-use Rattle.width.specs.Checked.{width_of_call}
-use Rattle.width.specs.CheckedLaws.{width_refused, given_width, checked_parse, Admitted, admitted_sound}
+use Rattle.width.specs.Checked.{checked, width_of_call}
+use Rattle.width.specs.CheckedLaws.{width_refused, given_width, checked_parse, checked_tree, too_little, Admitted, admitted_sound}
 use Rattle.expr.specs.Optional.{map}
 use Rattle.rewriting.specs.AtomSimplifier as def
 use Rattle.rewriting.specs.AtomSimplifier.{local_rewrite, first_site}
@@ -51,6 +51,14 @@ module _ (ws : List ℕ) (w room : ℕ) where
     pub room_asked : (t : Expr) → accepted t ≡ parse ws → with_room room t ≡ admitted ws w room
     unfolding admitted
     room_asked t f = ap asked (f ∙ checked_parse w b e ws)
+
+  -- words for fewer nodes than one more than the tree's
+  pub room_refused : (n : ℕ) → accepted n ≡ mapped nodes (checked w ws) → room < 2 * (n + 1) → refused (refusal 9) ≡ mapped nodes (admitted ws w room)
+  unfolding admitted
+  room_refused n e f =
+      let m = checked_tree w ws n e in
+      let l : room < 2 * (nodes m.tree + 1) = omega (arith, m.count) in
+      sym (ap (mapped nodes) (too_little _ room m.is l))
 
 pub ruleset admitting = (given_width, width_no, words_no)
 

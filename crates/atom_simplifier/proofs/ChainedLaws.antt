@@ -29,8 +29,9 @@ use Rattle.rewriting.specs.NodesLaws.{ends_nodes}
 use Rattle.rewriting.specs.ChainLaws.{ends_listed, ends_count, no_first_site, ends_lent, ends_value, ends_uniform, ends_valid, ends_depth, ends_variables}
 use Rattle.atom_simplifier.specs.declared.pairs.Pairs.{Pairs}
 use Rattle.atom_simplifier.specs.Calls.{with_work, chain_admitted}
-use Rattle.atom_simplifier.specs.Promises.{counted, IsBuilt}
+use Rattle.atom_simplifier.specs.Promises.{counted, PairsOf, IsBuilt}
 use Rattle.atom_simplifier.specs.Chained.{Chained, ChainIs, ChainGives}
+use Rattle.atom_simplifier.proofs.CountingLaws.{counted_few}
 
 -- ---- the end of a list is all that document 01 asks of it
 
@@ -93,7 +94,7 @@ module _ (ws : List ℕ) (w : ℕ) (widths : List ℕ) where
         (sym (then_refused (sym e) (with_work (length work)))) (refl, refl);
   }
 
-  module _ (t : Expr) (e : accepted t ≡ one_width_of ws w widths) (v : Pairs) (p : v ≡ counted t) where
+  module _ (t : Expr) (e : accepted t ≡ one_width_of ws w widths) (v : Pairs) (p : PairsOf v t) where
     of_one_width : OneWidth ws w widths t
     of_one_width = one_width_sound ws w widths t (sym e)
 
@@ -105,7 +106,7 @@ module _ (ws : List ℕ) (w : ℕ) (widths : List ℕ) where
     unfolding chain_admitted room_for counted
     admitted room =
         then_accepted (sym e) (with_work room)
-        ∙ ap (λ (y : Pairs). if ltb room (2 * (nodes t + y.pairs)) then refused (refusal 9) else accepted t) (sym p)
+        ∙ ap (λ (y : Pairs). if ltb room (2 * (nodes t + y.pairs)) then refused (refusal 9) else accepted t) (sym (counted_few v t p accepts.valid.count))
 
     pub work_too_small : (r : Reason) (work : List ℕ) → refused r ≡ room_for (λ u. 2 * (nodes u + v.pairs)) (length work) t → ChainGives (chain_admitted ws w widths (length work)) w widths work work (refused r)
     unfolding ChainIs

@@ -15,3 +15,4 @@ pub mod SettleLaws
 pub mod TurnLaws
 pub mod BuildLaws
 pub mod ChainedLaws
+pub mod CountingLaws

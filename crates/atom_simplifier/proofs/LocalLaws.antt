@@ -85,6 +85,13 @@ other_kind Or f g a b = absurd (g refl)
 other_kind Xor f g a b = if_none (is_not a || is_not b)
 other_kind Concat f g a b = if_none (is_not a || is_not b)
 
+-- by the kind word
+other_word : (t : Expr) → (get_or (encode t) 0 0 ≡ 7 → ⊥) → (get_or (encode t) 0 0 ≡ 4 → ⊥) → (get_or (encode t) 0 0 ≡ 5 → ⊥) → not_rewrite t ≡ none
+unfolding not_rewrite encode
+other_word (leaf k) f g h = refl
+other_word (unary k t) f g h = ap (λ (b : Bool). only_if b t) (no_not_kind k (λ e. f (ap unary_number e)))
+other_word (binary k a b) f g h = other_kind k (λ e. g (ap binary_number e)) (λ e. h (ap binary_number e)) a b
+
 -- And or Or, and what De Morgan makes of it
 record Over (k : Binary) : Type 0 where
   other : Binary
@@ -100,6 +107,11 @@ module _ (bs : List ℕ) (x : Whole bs) where
   pub leaf_below : (k : Leaf) → leaf k ≡ tree_at bs → Decides (7 ∷ 0 ∷ bs) None (not_rewrite (tree_at bs))
   unfolding not_rewrite
   leaf_below k e = decides_none _ _ (ap not_rewrite (sym e))
+
+  pub no_rule : (get_or bs 0 0 ≡ 7 → ⊥) → (get_or bs 0 0 ≡ 4 → ⊥) → (get_or bs 0 0 ≡ 5 → ⊥) → Decides (7 ∷ 0 ∷ bs) None (not_rewrite (tree_at bs))
+  no_rule f g h =
+      let first : get_or bs 0 0 ≡ get_or (encode (tree_at bs)) 0 0 = ap (λ (us : List ℕ). get_or us 0 0) x.words in
+      decides_none _ _ (other_word (tree_at bs) (λ e. f (first ∙ e)) (λ e. g (first ∙ e)) (λ e. h (first ∙ e)))
 
   module _ (k : Unary) (os : List ℕ) (y : Whole os) (e : unary k (tree_at os) ≡ tree_at bs) where
     pub no_double : (k ≡ Not → ⊥) → Decides (7 ∷ 0 ∷ bs) None (not_rewrite (tree_at bs))
@@ -311,7 +323,7 @@ module _ (ws : List ℕ) (x : Whole ws) where
 
 -- ---- by function
 
-pub ruleset not_rule = (leaf_below, no_double, double_goes, no_dual, left_not, right_not, neither_not)
+pub ruleset not_rule = (no_rule, leaf_below, no_double, double_goes, no_dual, left_not, right_not, neither_not)
 
 pub ruleset unary_rule = (not_decides, shift_stays, shift_goes, other_stays)
 

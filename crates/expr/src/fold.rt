@@ -1,6 +1,5 @@
 // The one walk over a tree.
-ghost use Rattle.std.specs.Prelude.{◌≤◌};
-ghost use Rattle.expr.specs.Expr.{Expr, leaf, unary, binary, nodes};
+ghost use Rattle.expr.specs.Expr.{Expr, leaf, unary, binary};
 ghost use Rattle.expr.specs.Front.{Read};
 ghost use Rattle.expr.specs.Trees.{tree_of};
 
@@ -8,29 +7,21 @@ use crate::Arity;
 use crate::kind::{Binary, Leaf, Unary};
 use crate::tree::{Tree, Walk};
 
-// What is found of a tree, a node after its children. A method of a node asks what `fits` says of its children; only `Tree::fold` calls it.
+// What is found of a tree, a node after its children.
 pub trait Fold {
     type Found;
 
     // what holds of what was found of a tree
     ghost gives: { Self → Self.Found → Expr → Type 0 };
 
-    // what a node asks of what was found of its children
-    ghost fits: { Self → Self.Found → Type 0 };
-
     fn leaf(&self, kind: Leaf) -> Self::Found
         ensures { gives self.now result (leaf kind) };
 
     fn unary(&self, kind: Unary, child: Self::Found) -> Self::Found
-        requires { fits self.now child }
         ensures { (t : Expr) → gives self.now child t → gives self.now result (unary kind t) };
 
     fn binary(&self, kind: Binary, left: Self::Found, right: Self::Found) -> Self::Found
-        requires { fits self.now left × fits self.now right }
         ensures { (l r : Expr) → gives self.now left l → gives self.now right r → gives self.now result (binary kind l r) };
-
-    // it fits a tree of at most 512 nodes
-    ghost within: { (s : Self) (x : Self.Found) (t : Expr) → nodes t ≤ 512 → gives s x t → fits s x };
 }
 
 // What was found of the tree that words begin with, and how many of them it takes.

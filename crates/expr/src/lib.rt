@@ -10,6 +10,7 @@ ghost use Rattle.expr.specs.Parse.{arity, arity_of, operand_ok, node_kind, subtr
 ghost use Rattle.expr.specs.Span.{span_of};
 ghost use Rattle.expr.specs.SameWords.{same_words};
 ghost use Rattle.expr.specs.Lent.{over};
+ghost use Rattle.expr.specs.Trees.{tree_of};
 ghost use Rattle.expr.specs.Answers.{outcome, children_of, arity_outcome};
 
 pub mod fold;
@@ -17,8 +18,6 @@ pub mod kind;
 pub mod refusal;
 pub mod tree;
 
-use fold::Fold;
-use kind::{Binary, Leaf, Unary};
 use refusal::Refusal;
 use tree::Tree;
 
@@ -165,39 +164,26 @@ pub fn copy_words(words: &[u64], out: &mut [u64])
     out[..n].copy_from_slice(&words[..n]);
 }
 
-// The walk that finds whether a tree has a Variable.
-struct Variables;
-
-impl Fold for Variables {
-    type Found = bool;
-
-    ghost gives = { λ _ found t. found ≡ has_var_dep_of t };
-
-    ghost fits = { λ _ _. Unit };
-
-    ghost within = { λ _ _ _ _ _. tt };
-
-    #[tactic(auto, unfolding(crate::specs::ExprUtils::has_var_dep_of))]
-    fn leaf(&self, kind: Leaf) -> bool {
-        matches!(kind, Leaf::Variable(_))
+// Whether a tree has a Variable. Not a `Fold`, which visits each node: its kind words stand at the even places, and the first of a Variable
+// ends the loop.
+fn has_variable(tree: Tree<'_>) -> bool
+    ensures { result ≡ has_var_dep_of (tree_of tree.entry) }
+{
+    let words = tree.words;
+    // by places, since every second word is a kind word
+    for place in (0..words.len()).step_by(2) {
+        if words[place] == kind::VARIABLE {
+            return true;
+        }
     }
-
-    #[tactic(auto, unfolding(crate::specs::ExprUtils::has_var_dep_of))]
-    fn unary(&self, _kind: Unary, child: bool) -> bool {
-        child
-    }
-
-    #[tactic(auto, unfolding(crate::specs::ExprUtils::has_var_dep_of))]
-    fn binary(&self, _kind: Binary, left: bool, right: bool) -> bool {
-        left || right
-    }
+    false
 }
 
 // Whether the tree has a Variable.
 pub fn has_var_dep(words: &[u64]) -> Result<bool, Refusal>
     ensures { outcome result ≡ mapped has_var_dep_of (parse words.now) }
 {
-    Ok(Tree::read(words)?.fold(&Variables))
+    Ok(has_variable(Tree::read(words)?))
 }
 
 // Whether the tree has no Variable.

@@ -75,3 +75,10 @@ impl From<Refusal> for Reason {
         }
     }
 }
+
+// The same, by the name that document 01's numbers are asked for by.
+pub fn reason_of(r: Refusal) -> Reason
+    ensures { result ≡ reason_of r }
+{
+    Reason::from(r)
+}

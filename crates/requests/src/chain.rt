@@ -11,6 +11,8 @@ use expr::refusal::Refusal;
 const MOST_WORK: usize = 26240;
 
 pub(crate) fn answer(name: &str, lists: &[u8], out: &mut Output<'_, impl Print>) -> Option<()> {
+    // first of all: a function sets its places to zero where it begins, and later the room would be set to zero a second time
+    let mut room = zeros::<u64, MOST_WORK>();
     let (numbers, lists) = text::first_list(lists)?;
     let (var_widths, words) = text::first_list(lists)?;
     let mut number_room = [0u32; 3];
@@ -25,7 +27,6 @@ pub(crate) fn answer(name: &str, lists: &[u8], out: &mut Output<'_, impl Print>)
         ("chain_times" | "chain_loop_times", [width, size, count]) => (*width, *size, *count),
         _ => return None,
     };
-    let mut room = zeros::<u64, MOST_WORK>();
     let chain = Chain {
         words,
         width,

@@ -71,8 +71,7 @@ impl<P: Print> Output<'_, P> {
     {
         self.put(b" /");
         for value in values {
-            let n: u64 = (*value).into();
-            write!(self, " {n:x}");
+            self.put_field((*value).into());
         }
     }
 

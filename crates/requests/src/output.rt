@@ -46,6 +46,15 @@ impl<'a, P: Print> Output<'a, P> {
         self.waiting = end;
     }
 
+    // A space, and a number. Not `write!`, which takes twice as long: lists are most of what is written.
+    pub(crate) fn put_field(&mut self, n: u64)
+        ensures { length self.new.buffer.now ≡ length self.old.buffer.now }
+    {
+        let mut field = [b' '; 17];
+        let digits = hexadecimal::put_number(n, &mut field[1..]);
+        self.put(&field[..1 + digits]);
+    }
+
     // Writes the bytes that wait.
     pub(crate) fn flush(&mut self)
         ensures places { length self.new.buffer.now ≡ length self.old.buffer.now }

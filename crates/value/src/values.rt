@@ -49,10 +49,6 @@ impl Fold for Values<'_> {
 
     ghost gives = { λ values found t. found ≡ value_if_lent values.width.bits values.setting.now t };
 
-    ghost fits = { λ _ _. Unit };
-
-    ghost within = { λ _ _ _ _ _. tt };
-
     fn leaf(&self, kind: Leaf) -> Option<u64> {
         match kind {
             Leaf::Constant(word) => Some(arith::trunc(word, self.width.bits)),

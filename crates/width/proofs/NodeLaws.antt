@@ -13,7 +13,8 @@ use Rattle.expr.specs.Expr.{Expr, leaf, unary, binary}
 use Rattle.expr.specs.Answers.{outcome}
 use Rattle.width.specs.declared.widths.Widths.{Widths}
 use Rattle.width.specs.Width.{ranged, valid, unary_width, binary_width, checked_width_of, unary_rule, binary_rule, validate_widths, or_zero, width_of}
-use Rattle.width.specs.Promises.{WidthsOf, both_of}
+use Rattle.width.specs.Promises.{WidthsOf, Summable, both_of}
+use Rattle.width.specs.WidthLaws.{width_summable}
 use Rattle.expr.specs.OutcomeLaws.{no_answer, same_answer}
 
 -- the first refusal of two, or the second answer
@@ -53,12 +54,12 @@ module _ (widths : List ℕ) (d : ℕ) (w : Result ℕ Refusal) where
       }
 
   pub binary_widths : (left right : Widths) (k : Binary) (rule v both all : Result Unit Refusal)
-      → outcome w ≡ (binary_width k (outcome left.width) (outcome right.width) and_then ranged) → outcome rule ≡ binary_rule k (outcome left.width) (outcome right.width)
+      → (Summable left.width → Summable right.width → outcome w ≡ (binary_width k (outcome left.width) (outcome right.width) and_then ranged)) → outcome rule ≡ binary_rule k (outcome left.width) (outcome right.width)
       → v ≡ result_and w left.valid → both ≡ result_and v right.valid → all ≡ result_and both rule
       → (t u : Expr) → WidthsOf widths d left t → WidthsOf widths d right u → WidthsOf widths d (record { width = w; valid = all }) (binary k t u)
   unfolding checked_width_of validate_widths
   binary_widths left right k rule v both all e f g h i t u a b =
-      let own : outcome w ≡ checked_width_of widths d (binary k t u) = e ∙ ap₂ (λ (x y : Outcome ℕ). binary_width k x y and_then ranged) a.width_is b.width_is in
+      let own : outcome w ≡ checked_width_of widths d (binary k t u) = e (width_summable widths d left t a) (width_summable widths d right u b) ∙ ap₂ (λ (x y : Outcome ℕ). binary_width k x y and_then ranged) a.width_is b.width_is in
       let after = outcome right.valid and_then (λ y. outcome rule) in
       record {
         width_is = own;

@@ -16,6 +16,6 @@ pub record WidthsOf (widths : List ℕ) (default : ℕ) (found : Widths) (t : Ex
 abbrev pub both_of : Widths → Outcome ℕ × Outcome Unit
 both_of found = (outcome found.width, outcome found.valid)
 
--- a width that is not refused has at most 64 bits, so that the sum of two does not overflow
+-- a width that is not refused has at most 64 bits, so that the sum of two does not wrap
 pub record Summable (width : Result ℕ Refusal) : Type 0 where
   pub at_most : (w : ℕ) → width ≡ Ok w → w ≤ 64

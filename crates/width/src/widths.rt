@@ -1,5 +1,5 @@
 // What the two walks find of a tree.
-ghost use Rattle.std.specs.Prelude.{◌≡◌, ◌≤◌, ◌+◌, ℕ, Result, Ok, get_or};
+ghost use Rattle.std.specs.Prelude.{◌≡◌, get_or};
 ghost use Rattle.expr.specs.Expr.{Expr, leaf};
 ghost use Rattle.expr.specs.declared.kind.Leaf.{Leaf};
 ghost use Rattle.expr.specs.declared.kind.Unary.{Unary};
@@ -10,7 +10,6 @@ ghost use Rattle.expr.specs.Parse.{parse};
 ghost use Rattle.expr.specs.Answers.{outcome};
 ghost use Rattle.width.specs.Width.{ranged, unary_width, binary_width, checked_width_of, validate_widths, unary_rule, binary_rule, unary_keeps, binary_keeps, is_uniform_width};
 ghost use Rattle.width.specs.Promises.{WidthsOf, both_of, Summable};
-ghost use Rattle.width.specs.WidthLaws.{width_summable};
 
 use crate::is_supported;
 use expr::fold::Fold;
@@ -70,12 +69,11 @@ fn unary_width(kind: Unary, child: Result<u32, Refusal>) -> Result<u32, Refusal>
     }
 }
 
-// A Concat refuses by its left child before the right one.
+// A Concat refuses by its left child before the right one. The sum does not wrap, as a width has at most 64 bits.
 fn concat_width(left: Result<u32, Refusal>, right: Result<u32, Refusal>) -> Result<u32, Refusal>
-    requires { Summable left × Summable right }
-    ensures { outcome result ≡ (binary_width Concat (outcome left) (outcome right) and_then ranged) }
+    ensures { Summable left → Summable right → outcome result ≡ (binary_width Concat (outcome left) (outcome right) and_then ranged) }
 {
-    ranged(left? + right?)
+    ranged(left?.wrapping_add(right?))
 }
 
 fn binary_width(
@@ -83,8 +81,7 @@ fn binary_width(
     left: Result<u32, Refusal>,
     right: Result<u32, Refusal>,
 ) -> Result<u32, Refusal>
-    requires { Summable left × Summable right }
-    ensures { outcome result ≡ (binary_width kind (outcome left) (outcome right) and_then ranged) }
+    ensures { Summable left → Summable right → outcome result ≡ (binary_width kind (outcome left) (outcome right) and_then ranged) }
 {
     match kind {
         Binary::Concat => concat_width(left, right),
@@ -147,10 +144,6 @@ impl Fold for VariableWidths<'_> {
 
     ghost gives = { λ variables found t. WidthsOf variables.list.now variables.default found t };
 
-    ghost fits = { λ variables found. Summable found.width };
-
-    ghost within = { λ variables found t few given. width_summable variables.list.now variables.default found t given };
-
     fn leaf(&self, kind: Leaf) -> Widths {
         let width = self.leaf_width(kind);
         Widths {
@@ -197,10 +190,6 @@ impl Fold for Uniform<'_> {
     type Found = bool;
 
     ghost gives = { λ uniform found t. found ≡ is_uniform_width uniform.variables.list.now uniform.variables.default t };
-
-    ghost fits = { λ _ _. Unit };
-
-    ghost within = { λ _ _ _ _ _. tt };
 
     #[tactic(auto, unfolding(crate::specs::Width::is_uniform_width))]
     fn leaf(&self, kind: Leaf) -> bool {

@@ -2,7 +2,7 @@
 use borrow.Author.Rules.{rules}
 use Rattle.expr.specs.FrontLaws.{walk, child_starts, left_starts, right_starts}
 use Rattle.expr.specs.PartLaws.{lead_starts, starts_lead}
-use Rattle.expr.proofs.FoldLaws.{read_fits, leaf_read, unary_read, binary_read, few_left, leaf_fits, unary_operand_fits}
+use Rattle.expr.proofs.FoldLaws.{leaf_read, unary_read, binary_read, few_left, leaf_fits, unary_operand_fits}
 use Rattle.expr.proofs.fold.+fold_at.Goals as goal
 
 ruleset laws = (rules, walk, lead_starts, leaf_read, few_left, leaf_fits, unary_operand_fits)
@@ -25,12 +25,6 @@ overflow_add-result g t c = search laws
 pub bounds-ws-1-in-One : goal.bounds-ws-1-in-One
 bounds-ws-1-in-One g t c = search laws
 
-pub unary-requires : goal.unary-requires
-unary-requires g t c =
-    let e = c.arity.ensures in
-    let child = child_starts c.args.walk.words.now (lead_starts _ c.args.walk.leads) _ e c.in-One.is in
-    read_fits _ child (few_left 2 c.args.walk.words.now c.args.walk.short) _ _ _ c.fold_at-words.ensures (λ t' n h. g.met.F.Fold.within c.args.by.now _ t' n h)
-
 pub offset_bounds-rest-from : goal.offset_bounds-rest-from
 offset_bounds-rest-from g t c = search laws
 
@@ -45,16 +39,6 @@ overflow_add-result-in-Two g t c = search laws
 
 pub overflow_add-result-in-Two-2 : goal.overflow_add-result-in-Two-2
 overflow_add-result-in-Two-2 g t c = search laws
-
-pub binary-requires : goal.binary-requires
-binary-requires g t c =
-    let e = c.arity.ensures in
-    let left = left_starts c.args.walk.words.now (lead_starts _ c.args.walk.leads) _ e c.in-Two.is in
-    let right = right_starts c.args.walk.words.now (lead_starts _ c.args.walk.leads) _ e c.in-Two.is _ c.fold_at-left.ensures.spans in
-    let few = few_left 2 c.args.walk.words.now c.args.walk.short in (
-      read_fits _ left few _ _ _ c.fold_at-left.ensures (λ t' n h. g.met.F.Fold.within c.args.by.now _ t' n h),
-      read_fits _ right (few_left _ _ few) _ _ _ c.fold_at-right.ensures (λ t' n h. g.met.F.Fold.within c.args.by.now _ t' n h),
-    )
 
 pub returns-in-Zero : goal.returns-in-Zero
 returns-in-Zero g t c = search laws
