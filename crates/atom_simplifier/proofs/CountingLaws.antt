@@ -1,4 +1,4 @@
--- What the walk finds of a node, from what it has found of its children: where both have 64 bits no sum wraps. Assumes nothing.
+-- What the walk finds of a node, from what it has found of its children: where both numbers have 64 bits no sum wraps. Assumes nothing.
 use mathlib.Core.Path.{◌≡◌, refl, ap, ap₂, ◌∙◌}
 use Prim.Native.Nat.{ℕ, ◌+◌, ◌%◌, ◌^◌, ◌≤◌, ◌<◌}
 use native.Mathlib.Omega.{arith}

@@ -207,11 +207,11 @@ pub record Searched (o : Option def.Site) (n : ℕ) (before after : List ℕ) (r
 
 -- ---- the chain
 
--- what a tree has of both
+-- a tree's And and Or nodes, and its pairs
 unfoldable pub counted : Expr → Pairs
 counted t = record { and_ors = and_ors_of t; pairs = D t }
 
--- what the walk finds of a tree, unless one of both has more than 64 bits and a sum wraps
+-- what the walk finds of a tree, unless one of the two numbers has more than 64 bits and a sum wraps
 pub record PairsOf (found : Pairs) (t : Expr) : Type 0 where
   pub pairs_are : and_ors_of t < 2 ^ 64 → D t < 2 ^ 64 → found ≡ counted t
 

@@ -14,7 +14,6 @@ use Rattle.expr.specs.declared.kind.Unary.TheVariants.{Not, Neg, Shr, ZExt, SExt
 use Rattle.expr.specs.declared.kind.Binary.{Binary}
 use Rattle.expr.specs.declared.kind.Binary.TheVariants.{Add, Mul, And, Or, Xor, Concat}
 use Rattle.expr.specs.ExprUtils.{is_constant_subtree, has_var_dep_of}
-use Rattle.expr.specs.Front.{Whole, tree_at}
 
 -- one of the kind words, at the even places, is that of a Variable
 abbrev any_variable : List ℕ → Bool
@@ -83,13 +82,13 @@ pub looking_first : (ws : List ℕ) → Looking ws 0
 looking_first ws = record { later = refl }
 
 module _ (ws : List ℕ) (i : ℕ) (g : Looking ws i) where
-  pub variable_none : length ws ≤ i → Whole ws → false ≡ has_var_dep_of (tree_at ws)
-  variable_none h x = sym (sym (any_tree (tree_at ws)) ∙ ap any_variable (sym x.words) ∙ g.later ∙ ap any_variable (drop_of_length-le ws h))
+  pub variable_none : length ws ≤ i → (t : Expr) → ws ≡ encode t → false ≡ has_var_dep_of t
+  variable_none h t e = sym (sym (any_tree t) ∙ ap any_variable (sym e) ∙ g.later ∙ ap any_variable (drop_of_length-le ws h))
 
   module _ (h : i < length ws) where
-    pub variable_found : get_or ws i 0 ≡ 1 → Whole ws → true ≡ has_var_dep_of (tree_at ws)
-    variable_found f x =
-        sym (sym (any_tree (tree_at ws)) ∙ ap any_variable (sym x.words) ∙ g.later ∙ turn ws i h ∙ ap (λ (b : Bool). b || any_variable (drop (i + 2) ws)) (eq-eqb (get_or ws i 0) 1 f))
+    pub variable_found : get_or ws i 0 ≡ 1 → (t : Expr) → ws ≡ encode t → true ≡ has_var_dep_of t
+    variable_found f t e =
+        sym (sym (any_tree t) ∙ ap any_variable (sym e) ∙ g.later ∙ turn ws i h ∙ ap (λ (b : Bool). b || any_variable (drop (i + 2) ws)) (eq-eqb (get_or ws i 0) 1 f))
 
     pub looking_on : (get_or ws i 0 ≡ 1 → ⊥) → Looking ws (i + 2)
     looking_on f = record { later = g.later ∙ turn ws i h ∙ ap (λ (b : Bool). b || any_variable (drop (i + 2) ws)) (ne_eqb (get_or ws i 0) 1 f) }

@@ -76,7 +76,7 @@ impl From<Refusal> for Reason {
     }
 }
 
-// The same, by the name that document 01's numbers are asked for by.
+// The number and the values of a refusal, by a call of its own.
 pub fn reason_of(r: Refusal) -> Reason
     ensures { result ≡ reason_of r }
 {

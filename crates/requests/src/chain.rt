@@ -11,7 +11,7 @@ use expr::refusal::Refusal;
 const MOST_WORK: usize = 26240;
 
 pub(crate) fn answer(name: &str, lists: &[u8], out: &mut Output<'_, impl Print>) -> Option<()> {
-    // first of all: a function sets its places to zero where it begins, and later the room would be set to zero a second time
+    // first: made behind a `?`, the room would be set to zero twice
     let mut room = zeros::<u64, MOST_WORK>();
     let (numbers, lists) = text::first_list(lists)?;
     let (var_widths, words) = text::first_list(lists)?;
