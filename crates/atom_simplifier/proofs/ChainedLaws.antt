@@ -130,13 +130,15 @@ module _ (ws : List ℕ) (w : ℕ) (widths : List ℕ) where
         ends : Ends w t i.comes.tree steps
         ends = subst (λ (s : Expr). Ends w s i.comes.tree steps) tree_is (subst (λ (n : ℕ). Ends n (tree_at vs) i.comes.tree steps) z i.comes.ends)
 
-        pub chain_answered : (cleared : List ℕ) → cleared ≡ replicate (length (tail len built)) 0
-            → ChainGives (chain_admitted ws w widths (length work)) w widths work (put_mid len (length built - len) built cleared) (accepted (len / 2, steps))
+        -- `from` is where the clearing began
+        pub chain_answered : (from : ℕ) → from ≡ len → (cleared : List ℕ) → cleared ≡ replicate (length (tail from built)) 0
+            → ChainGives (chain_admitted ws w widths (length work)) w widths work (put_mid from (length built - from) built cleared) (accepted (len / 2, steps))
         unfolding ChainIs
-        chain_answered cleared c =
+        chain_answered from h cleared c =
             let u = i.comes.tree in
-            let after = put_mid len (length built - len) built cleared in
+            let after = put_mid from (length built - from) built cleared in
             let half : len / 2 ≡ nodes u = omega (arith, i.comes.len_is, length_encode u) in
+            let end : from ≡ length (encode u) = h ∙ i.comes.len_is in
             record {
               is =
                   subst (λ (a : Outcome Expr). ChainIs a w widths work after (accepted (len / 2, steps)))
@@ -144,13 +146,13 @@ module _ (ws : List ℕ) (w : ℕ) (widths : List ℕ) where
                     len / 2,
                     steps,
                     refl,
-                    after_length u i.comes.rest built after cleared len i.comes.len_is i.comes.words c refl ∙ i.comes.long,
+                    after_length u i.comes.rest built after cleared from end i.comes.words c refl ∙ i.comes.long,
                     chained w widths t u steps ws after (len / 2) of_one_width accepts ends half
-                        (only_zeros u i.comes.rest built after cleared len i.comes.len_is i.comes.words c refl),
+                        (only_zeros u i.comes.rest built after cleared from end i.comes.words c refl),
                   );
             }
 
 pub end_inside : (w : ℕ) (ws work built : List ℕ) (read len steps : ℕ) → IsBuilt w ws work built read len steps → len ≤ length built
 end_inside w ws work built read len steps i = omega (arith, i.comes.len_is, ap length i.comes.words, length-append (encode i.comes.tree) i.comes.rest)
 
-pub ruleset chaining = (chain_turned_down, chain_room, end_inside, chain_answered)
+pub ruleset chaining = (chain_turned_down, chain_room, end_inside)

@@ -1,6 +1,6 @@
 -- `atom_simplifier::chain::chain` meets its contract. Assumes nothing.
 use Rattle.arith.specs.NeedLaws.{basics}
-use Rattle.atom_simplifier.proofs.ChainedLaws.{work_too_small, chaining}
+use Rattle.atom_simplifier.proofs.ChainedLaws.{work_too_small, chain_answered, chaining}
 use Rattle.atom_simplifier.proofs.chain.chain.Goals as goal
 
 ruleset laws = (basics, chaining)
@@ -14,5 +14,8 @@ returns-in_err-tree-2 c = search (laws, work_too_small _ _ _ _ c.in_ok-tree.ensu
 pub build-built-requires : goal.build-built-requires
 build-built-requires c = search (laws, c.in_ok-tree.ensures.tree, c.in_ok-tree-2.ensures)
 
+-- the law is applied by name: of the range that is cleared only its start is searched for
 pub returns : goal.returns
-returns c = search (laws, c.in_ok-tree.ensures.tree, c.in_ok-tree.ensures.width, c.in_ok-tree-2.ensures, c.fill.ensures.after (λ y e. e))
+returns c =
+    chain_answered _ _ _ _ c.in_ok-tree.ensures.tree _ c.fold-found.ensures _ _ c.in_ok-tree-2.ensures _ c.over.ensures _ c.in_ok-tree.ensures.width _ _ _ _ c.build-built.ensures _ (search laws) _
+    (c.fill.ensures.after (λ y e. e))
