@@ -15,6 +15,7 @@ pub struct Taken {
 }
 
 // How many bytes stand before the first 0a; all of them where there is none.
+#[tactic(auto, using(crate::proofs::KeepLaws::end_found))]
 pub fn end_of(chunk: &[u8]) -> usize
     ensures { result ≡ length (up_to chunk.now) }
 {
