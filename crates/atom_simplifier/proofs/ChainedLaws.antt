@@ -130,24 +130,24 @@ module _ (ws : List ℕ) (w : ℕ) (widths : List ℕ) where
         ends : Ends w t i.comes.tree steps
         ends = subst (λ (s : Expr). Ends w s i.comes.tree steps) tree_is (subst (λ (n : ℕ). Ends n (tree_at vs) i.comes.tree steps) z i.comes.ends)
 
-        -- `from` is where the clearing began
-        pub chain_answered : (from : ℕ) → from ≡ len → (cleared : List ℕ) → cleared ≡ replicate (length (tail from built)) 0
-            → ChainGives (chain_admitted ws w widths (length work)) w widths work (put_mid from (length built - from) built cleared) (accepted (len / 2, steps))
+        -- `from` is where the clearing began, `rewrites` the number that is answered
+        pub chain_answered : (from : ℕ) → from ≡ len → (rewrites : ℕ) → rewrites ≡ steps → (cleared : List ℕ) → cleared ≡ replicate (length (tail from built)) 0
+            → ChainGives (chain_admitted ws w widths (length work)) w widths work (put_mid from (length built - from) built cleared) (accepted (len / 2, rewrites))
         unfolding ChainIs
-        chain_answered from h cleared c =
+        chain_answered from h rewrites k cleared c =
             let u = i.comes.tree in
             let after = put_mid from (length built - from) built cleared in
             let half : len / 2 ≡ nodes u = omega (arith, i.comes.len_is, length_encode u) in
             let end : from ≡ length (encode u) = h ∙ i.comes.len_is in
             record {
               is =
-                  subst (λ (a : Outcome Expr). ChainIs a w widths work after (accepted (len / 2, steps)))
+                  subst (λ (a : Outcome Expr). ChainIs a w widths work after (accepted (len / 2, rewrites)))
                   (roomy.1 ∙ f ∙ sym (admitted (length work))) (
                     len / 2,
-                    steps,
+                    rewrites,
                     refl,
                     after_length u i.comes.rest built after cleared from end i.comes.words c refl ∙ i.comes.long,
-                    chained w widths t u steps ws after (len / 2) of_one_width accepts ends half
+                    chained w widths t u rewrites ws after (len / 2) of_one_width accepts (subst (λ (n : ℕ). Ends w t u n) (sym k) ends) half
                         (only_zeros u i.comes.rest built after cleared from end i.comes.words c refl),
                   );
             }

@@ -14,8 +14,8 @@ returns-in_err-tree-2 c = search (laws, work_too_small _ _ _ _ c.in_ok-tree.ensu
 pub build-built-requires : goal.build-built-requires
 build-built-requires c = search (laws, c.in_ok-tree.ensures.tree, c.in_ok-tree-2.ensures)
 
--- the law is applied by name: of the range that is cleared only its start is searched for
+-- the law is applied by name: what is searched for is where the clearing began and how many rewrites are answered
 pub returns : goal.returns
 returns c =
-    chain_answered _ _ _ _ c.in_ok-tree.ensures.tree _ c.fold-found.ensures _ _ c.in_ok-tree-2.ensures _ c.over.ensures _ c.in_ok-tree.ensures.width _ _ _ _ c.build-built.ensures _ (search laws) _
+    chain_answered _ _ _ _ c.in_ok-tree.ensures.tree _ c.fold-found.ensures _ _ c.in_ok-tree-2.ensures _ c.over.ensures _ c.in_ok-tree.ensures.width _ _ _ _ c.build-built.ensures _ (search laws) _ (search laws) _
     (c.fill.ensures.after (λ y e. e))
