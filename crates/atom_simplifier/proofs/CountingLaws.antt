@@ -1,15 +1,16 @@
 -- What the walk finds of a node, from what it has found of its children: where both numbers have 64 bits no sum wraps. Assumes nothing.
-use mathlib.Core.Path.{◌≡◌, refl, ap, ap₂, ◌∙◌}
+use mathlib.Core.Path.{◌≡◌, ap, ap₂, ◌∙◌}
 use Prim.Native.Nat.{ℕ, ◌+◌, ◌%◌, ◌^◌, ◌≤◌, ◌<◌}
 use native.Mathlib.Omega.{arith}
 use Rattle.std.proofs.Common.{mod-eq_of_lt}
 use Rattle.expr.specs.declared.kind.Unary.{Unary}
 use Rattle.expr.specs.declared.kind.Binary.{Binary}
+use Rattle.expr.specs.DomainLaws.{few_below}
 use Rattle.expr.specs.Expr.{Expr, unary, binary, nodes}
 use Rattle.rewriting.specs.Measures.{and_or, and_ors_of, pairs, D}
 use Rattle.atom_simplifier.specs.declared.pairs.Pairs.{Pairs}
-use Rattle.atom_simplifier.specs.Promises.{counted, PairsOf}
-use Rattle.atom_simplifier.specs.PairsLaws.{few_pairs}
+use Rattle.atom_simplifier.specs.Promises.{counted, Narrow, PairsOf}
+use Rattle.atom_simplifier.specs.PairsLaws.{narrow}
 
 -- sums that do not wrap
 whole : (a b m : ℕ) → a + b ≡ m → m < 2 ^ 64 → (a + b) % 18446744073709551616 ≡ m
@@ -60,9 +61,14 @@ binary_counted left right k n e l r a b = record {
       (whole _ _ _ (ap₂ ◌+◌ (pairs_is left l x v a) (pairs_is right r y w b)) less);
 }
 
+-- the same, as the walk's domain has it
+module _ (found : Pairs) (t : Expr) where
+  pub pairs_of : (Narrow t → found ≡ counted t) → PairsOf found t
+  pairs_of h = record { pairs_are = λ few less. h (few, less) }
+
+  pub found_of : PairsOf found t → Narrow t → found ≡ counted t
+  found_of c n = c.pairs_are n.0 n.1
+
 -- what is found of a tree of at most 512 nodes
 pub counted_few : (found : Pairs) (t : Expr) → PairsOf found t → nodes t ≤ 512 → found ≡ counted t
-unfolding counted
-counted_few found t c few =
-    let b = few_pairs (counted t) t few refl in
-    c.pairs_are (omega (arith, b.0)) (omega (arith, b.1))
+counted_few found t c few = found_of found t c (narrow t (few_below t few))

@@ -211,6 +211,10 @@ pub record Searched (o : Option def.Site) (n : ℕ) (before after : List ℕ) (r
 unfoldable pub counted : Expr → Pairs
 counted t = record { and_ors = and_ors_of t; pairs = D t }
 
+-- each of the two numbers has at most 64 bits
+abbrev pub Narrow : Expr → Type 0
+Narrow t = (and_ors_of t < 2 ^ 64) × (D t < 2 ^ 64)
+
 -- what the walk finds of a tree, unless one of the two numbers has more than 64 bits and a sum wraps
 pub record PairsOf (found : Pairs) (t : Expr) : Type 0 where
   pub pairs_are : and_ors_of t < 2 ^ 64 → D t < 2 ^ 64 → found ≡ counted t

@@ -1,7 +1,9 @@
 // The pairs of an And or Or and a Not above it, which are document 01's D, by one fold.
 ghost use Rattle.std.specs.Prelude.{◌≡◌};
+ghost use Rattle.expr.specs.Domain.{those};
 ghost use Rattle.rewriting.specs.Measures.{and_or, pairs};
-ghost use Rattle.atom_simplifier.specs.Promises.{PairsOf};
+ghost use Rattle.atom_simplifier.specs.PairsLaws.{narrow};
+ghost use Rattle.atom_simplifier.specs.Promises.{counted, Narrow};
 
 use expr::fold::Fold;
 use expr::kind::{Binary, Leaf, Unary};
@@ -39,7 +41,9 @@ pub(crate) struct Counting;
 impl Fold for Counting {
     type Found = Pairs;
 
-    ghost gives = { λ _ found t. PairsOf found t };
+    ghost gives = { λ _ found t. found ≡ counted t };
+
+    ghost domain = { those Narrow narrow };
 
     #[tactic(auto, unfolding(crate::specs::Promises::counted, rewriting::specs::Measures::and_ors_of, rewriting::specs::Measures::D))]
     fn leaf(&self, _kind: Leaf) -> Pairs {

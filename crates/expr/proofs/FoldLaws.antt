@@ -8,18 +8,24 @@ use lib.ListN.{length, get_or}
 use Rattle.expr.specs.declared.Arity.{Arity}
 use Rattle.expr.specs.declared.Arity.TheVariants.{Zero, One, Two}
 use Rattle.expr.specs.Outcome.{accepted}
-use Rattle.expr.specs.Expr.{Expr, leaf, unary, binary, leaf_number, leaf_operand, unary_number, unary_operand, binary_number}
+use Rattle.expr.specs.Expr.{Expr, leaf, unary, binary, leaf_number, leaf_operand, unary_number, unary_operand, binary_number, nodes}
 use Rattle.expr.specs.declared.kind.Leaf.{Leaf}
 use Rattle.expr.specs.declared.kind.Leaf.TheVariants.{Constant, Variable}
 use Rattle.expr.specs.declared.kind.Unary.{Unary}
 use Rattle.expr.specs.declared.kind.Binary.{Binary}
+use Rattle.expr.specs.ExprLaws.{length_encode}
 use Rattle.expr.specs.Parse.{arity_of, operand_ok}
 use Rattle.expr.specs.KindLaws.{unary_operand_lem}
 use Rattle.expr.specs.Answers.{children_of}
 use Rattle.expr.specs.Front.{Starts, Read}
-use Rattle.expr.specs.FrontLaws.{leaf_node, unary_node, leaf_spans, unary_spans, binary_spans, leaf_holds, unary_holds, binary_holds}
+use Rattle.expr.specs.FrontLaws.{front_length, leaf_node, unary_node, leaf_spans, unary_spans, binary_spans, leaf_holds, unary_holds, binary_holds}
 use Rattle.expr.specs.Parts.{tail}
 use Rattle.expr.specs.TailLaws.{length_tail}
+
+-- what holds of every small tree holds of the one that was read
+pub read_fits : (ws : List ℕ) (s : Starts ws) → length ws ≤ 1024 → (n : ℕ) (P Q : Expr → Type 0) → Read ws n P
+    → ((t : Expr) → nodes t ≤ 512 → P t → Q t) → Q s.tree
+read_fits ws s l n P Q r h = h s.tree (omega (arith, front_length ws s.tree s.front, length_encode s.tree)) (r.holds s.tree s.front)
 
 -- a Variable's number fits in 32 bits
 variable_small : (k : Leaf) → T (operand_ok (leaf_number k) (leaf_operand k)) → leaf_number k ≡ 1 → leaf_operand k ≤ 4294967295

@@ -8,6 +8,7 @@ pub mod Parts
 pub mod Optional
 pub mod Front
 pub mod Trees
+pub mod Domain
 pub mod Room
 pub mod Lent
 pub mod SameWords
@@ -24,4 +25,5 @@ pub mod SpanLaws
 pub mod TailLaws
 pub mod LentLaws
 pub mod FrontLaws
+pub mod DomainLaws
 pub mod PartLaws

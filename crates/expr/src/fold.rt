@@ -1,4 +1,5 @@
 // The one walk over a tree.
+ghost use Rattle.expr.specs.Domain.{Domain, every, on};
 ghost use Rattle.expr.specs.Expr.{Expr, leaf, unary, binary};
 ghost use Rattle.expr.specs.Front.{Read};
 ghost use Rattle.expr.specs.Trees.{tree_of};
@@ -14,14 +15,17 @@ pub trait Fold {
     // what holds of what was found of a tree
     ghost gives: { Self → Self.Found → Expr → Type 0 };
 
+    // the trees of which a node's method promises it; all, unless a sum could wrap
+    ghost domain: { Domain } = { every };
+
     fn leaf(&self, kind: Leaf) -> Self::Found
         ensures { gives self.now result (leaf kind) };
 
     fn unary(&self, kind: Unary, child: Self::Found) -> Self::Found
-        ensures { (t : Expr) → gives self.now child t → gives self.now result (unary kind t) };
+        ensures { (t : Expr) → on domain t (gives self.now child t) → on domain (unary kind t) (gives self.now result (unary kind t)) };
 
     fn binary(&self, kind: Binary, left: Self::Found, right: Self::Found) -> Self::Found
-        ensures { (l r : Expr) → gives self.now left l → gives self.now right r → gives self.now result (binary kind l r) };
+        ensures { (l r : Expr) → on domain l (gives self.now left l) → on domain r (gives self.now right r) → on domain (binary kind l r) (gives self.now result (binary kind l r)) };
 }
 
 // What was found of the tree that words begin with, and how many of them it takes.
@@ -32,7 +36,7 @@ struct Found<T> {
 
 // The tree that the words begin with.
 fn fold_at<F: Fold>(by: &F, walk: Walk<'_>) -> Found<F::Found>
-    ensures { Read walk.entry.words.now result.words (F.gives by.now result.found) }
+    ensures { Read walk.entry.words.now result.words (λ t. on F.domain t (F.gives by.now result.found t)) }
 {
     let ws = walk.words;
     let kind = ws[0];
@@ -71,7 +75,6 @@ fn fold_at<F: Fold>(by: &F, walk: Walk<'_>) -> Found<F::Found>
 
 impl Tree<'_> {
     // What is found of the tree.
-    #[tactic(auto, using(crate::proofs::ChildLaws::whole_front))]
     pub fn fold<F: Fold>(self, by: &F) -> F::Found
         ensures { F.gives by.now result (tree_of self.entry) }
     {

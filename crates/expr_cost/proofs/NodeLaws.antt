@@ -1,18 +1,17 @@
 -- What the walk finds of a node, from what it has found of its children: where the numbers have 32 bits no sum wraps. Assumes nothing.
-use mathlib.Core.Path.{◌≡◌, refl, ap, ap₂, ◌∙◌}
+use mathlib.Core.Path.{◌≡◌, ap, ap₂, ◌∙◌}
 use mathlib.Core.Bool.{Bool, false}
-use Prim.Native.Nat.{ℕ, ◌+◌, ◌%◌, ◌≤◌, ◌<◌}
+use Prim.Native.Nat.{ℕ, ◌+◌, ◌%◌, ◌<◌}
 use native.Mathlib.Omega.{arith}
 use Rattle.std.specs.Prelude.{◌||◌, max, if◌then◌else◌}
 use Rattle.std.proofs.Common.{mod-eq_of_lt}
 use Rattle.expr.specs.declared.kind.Unary.{Unary}
 use Rattle.expr.specs.declared.kind.Binary.{Binary}
-use Rattle.expr.specs.Expr.{Expr, unary, binary, nodes, depth}
+use Rattle.expr.specs.Expr.{Expr, unary, binary, depth}
 use Rattle.expr.specs.ExprUtils.{has_var_dep_of}
 use Rattle.expr_cost.specs.declared.CostInfo.{CostInfo}
 use Rattle.expr_cost.specs.ExprCost.{is_nonlinear, own_weight, weighted_size_of, nonlinear_mul_count_of, compute_cost}
-use Rattle.expr_cost.specs.Promises.{Small, Narrow, CostOf}
-use Rattle.expr_cost.specs.ExprCostLaws.{small_cost}
+use Rattle.expr_cost.specs.Promises.{Narrow, CostOf}
 
 -- a sum that does not wrap
 whole : (a b : ℕ) → a + b < 4294967296 → (a + b) % 4294967296 ≡ a + b
@@ -20,13 +19,6 @@ whole a b h = mod-eq_of_lt h
 
 wholes : (a b c : ℕ) → a + b + c < 4294967296 → ((a + b) % 4294967296 + c) % 4294967296 ≡ a + b + c
 wholes a b c h = ap (λ (n : ℕ). (n + c) % 4294967296) (whole a b (omega arith)) ∙ whole (a + b) c h
-
--- a tree of at most 512 nodes has such a cost
-pub narrow : (t : Expr) → nodes t ≤ 512 → Narrow t
-unfolding compute_cost
-narrow t few =
-    let s : Small (compute_cost t) = small_cost (compute_cost t) t few refl in
-    record { weight = omega (arith, s.weight); products = omega (arith, s.products); levels = omega (arith, s.levels) }
 
 -- the four parts of a cost
 module _ (info : CostInfo) (t : Expr) (few : Narrow t) (c : CostOf info t) where
@@ -102,3 +94,11 @@ module _ (left right : CostInfo) (k : Binary) (nonlinear : Bool)
         ∙ omega (arith, m, levels_is left l x a, levels_is right r y b))
         (i ∙ ap₂ ◌||◌ (variable_is left l x a) (variable_is right r y b));
   }
+
+-- the same, as the walk's domain has it
+module _ (info : CostInfo) (t : Expr) where
+  pub cost_of : (Narrow t → info ≡ compute_cost t) → CostOf info t
+  cost_of h = record { cost_is = h }
+
+  pub found_of : CostOf info t → Narrow t → info ≡ compute_cost t
+  found_of c n = c.cost_is n

@@ -2,11 +2,12 @@
 use Rattle.std.specs.Prelude.{◌≡◌, refl, Bool, true, false, ◌&&◌, ◌||◌, ◌⊎◌, ℕ, ◌+◌, ◌*◌, ◌^◌, ◌≤◌, ◌<◌, ltb, eqb, if◌then◌else◌}
 use Rattle.std.proofs.Common.{sym, subst, inl, inr, ⊎_elim, arith, mul-add, le_refl, ltb-true, eqb-true, lt-ltb, le-ltb, eq-eqb}
 use Rattle.expr.specs.Expr.{Expr, leaf, unary, binary, nodes}
+use Rattle.expr.specs.Domain.{FewBelow}
 use Rattle.expr.specs.ExprLaws.{depth_nodes}
 use Rattle.expr_cost.specs.declared.ExprCost.{ExprCost}
 use Rattle.expr_cost.specs.declared.CostInfo.{CostInfo}
 use Rattle.expr_cost.specs.ExprCost.{is_nonlinear, own_weight, weighted_size_of, nonlinear_mul_count_of, compute_cost, is_better}
-use Rattle.expr_cost.specs.Promises.{Small}
+use Rattle.expr_cost.specs.Promises.{Small, Narrow}
 
 -- whatever a node weighs at most, a tree weighs at most that for each of its nodes
 pub weight_most : (m : ℕ) → ((b : Bool) → own_weight b ≤ m) → (t : Expr) → weighted_size_of t ≤ m * nodes t
@@ -85,3 +86,18 @@ small_cost info t few e =
       products = omega (arith, products_most t);
       levels = omega (arith, depth_nodes t);
     })
+
+-- each number of a node over trees of at most 512 nodes has at most 32 bits
+pub narrow : (t : Expr) → FewBelow t → Narrow t
+unfolding compute_cost weighted_size_of nodes
+narrow (leaf k) few = record { weight = omega (arith, own_most false); products = omega (arith, products_most (leaf k)); levels = omega (arith, depth_nodes (leaf k)) }
+narrow (unary k t) few = record {
+  weight = omega (arith, own_most false, (small_cost (compute_cost t) t few refl).weight);
+  products = omega (arith, few, products_most (unary k t));
+  levels = omega (arith, few, depth_nodes (unary k t));
+}
+narrow (binary k l r) few = record {
+  weight = omega (arith, own_most (is_nonlinear k l r), (small_cost (compute_cost l) l few.0 refl).weight, (small_cost (compute_cost r) r few.1 refl).weight);
+  products = omega (arith, few.0, few.1, products_most (binary k l r));
+  levels = omega (arith, few.0, few.1, depth_nodes (binary k l r));
+}

@@ -3,13 +3,15 @@
 
 ghost use Rattle.std.specs.Prelude.{◌≡◌};
 ghost use Rattle.expr.specs.declared.kind.Binary.{Binary};
+ghost use Rattle.expr.specs.Domain.{those};
 ghost use Rattle.expr.specs.Expr.{Expr};
 ghost use Rattle.expr.specs.ExprUtils.{has_var_dep_of};
 ghost use Rattle.expr.specs.Outcome.{mapped};
 ghost use Rattle.expr.specs.Parse.{parse};
 ghost use Rattle.expr.specs.Answers.{outcome};
 ghost use Rattle.expr_cost.specs.ExprCost.{is_nonlinear, own_weight, compute_cost, is_better};
-ghost use Rattle.expr_cost.specs.Promises.{CostOf};
+ghost use Rattle.expr_cost.specs.Promises.{Narrow};
+ghost use Rattle.expr_cost.specs.ExprCostLaws.{narrow};
 
 use expr::fold::Fold;
 use expr::kind::{Binary, Leaf, Unary};
@@ -51,7 +53,9 @@ struct Costs;
 impl Fold for Costs {
     type Found = CostInfo;
 
-    ghost gives = { λ _ info t. CostOf info t };
+    ghost gives = { λ _ info t. info ≡ compute_cost t };
+
+    ghost domain = { those Narrow narrow };
 
     #[tactic(auto, unfolding(crate::specs::ExprCost::compute_cost, crate::specs::ExprCost::weighted_size_of, crate::specs::ExprCost::nonlinear_mul_count_of, expr::specs::Expr::depth, expr::specs::ExprUtils::has_var_dep_of))]
     fn leaf(&self, kind: Leaf) -> CostInfo {

@@ -1,5 +1,7 @@
 -- `expr::fold::fold_at` meets its contract. The measure is the number of words left. Assumes nothing.
 use borrow.Author.Rules.{rules}
+use Rattle.expr.specs.Expr.{leaf}
+use Rattle.expr.specs.DomainLaws.{on_any}
 use Rattle.expr.specs.FrontLaws.{walk, child_starts, left_starts, right_starts}
 use Rattle.expr.specs.PartLaws.{lead_starts, starts_lead}
 use Rattle.expr.proofs.FoldLaws.{leaf_read, unary_read, binary_read, few_left, leaf_fits, unary_operand_fits}
@@ -41,7 +43,7 @@ pub overflow_add-result-in-Two-2 : goal.overflow_add-result-in-Two-2
 overflow_add-result-in-Two-2 g t c = search laws
 
 pub returns-in-Zero : goal.returns-in-Zero
-returns-in-Zero g t c = search laws
+returns-in-Zero g t c = search (laws, on_any (leaf c.of.result) g.F.Fold.domain c.leaf.ensures)
 
 pub returns-in-One : goal.returns-in-One
 returns-in-One g t c =
